@@ -1,5 +1,5 @@
-// The language client: it starts `mixrev lsp`, tells it of each open source, and asks it what VS Code
-// asks. It uses what VS Code has and Node has, and nothing else.
+// The language client: it starts `mixrev lsp`, tells it of each open source, and asks it what VS
+// Code asks. It uses what VS Code has and Node has, and nothing else.
 "use strict";
 const { spawn } = require("node:child_process");
 const vscode = require("vscode");
@@ -137,7 +137,7 @@ class Client {
 
   // What the server can do is offered.
   provide(able) {
-    const offer = (name, register, provider) => able[name] && this.parts.push(vscode.languages[register](LANGUAGE, provider));
+    const offer = (name, register, ...provider) => able[name] && this.parts.push(vscode.languages[register](LANGUAGE, ...provider));
     offer("definitionProvider", "registerDefinitionProvider", {
       provideDefinition: async (document, at) => (await this.at("definition", document, at)).map(location),
     });
@@ -182,6 +182,15 @@ class Client {
         return list.map((one) => Object.assign(new vscode.CodeAction(one.title, vscode.CodeActionKind.QuickFix), { edit: workspaceEdit(one.edit) }));
       },
     });
+    offer("inlayHintProvider", "registerInlayHintsProvider", {
+      provideInlayHints: async (document, shown) =>
+        (await this.of("inlayHint", document, { range: range(shown) })).map((one) =>
+          Object.assign(new vscode.InlayHint(position(one.position), one.label), { paddingLeft: one.paddingLeft })),
+    });
+    const { legend } = able.semanticTokensProvider ?? {};
+    offer("semanticTokensProvider", "registerDocumentSemanticTokensProvider", {
+      provideDocumentSemanticTokens: async (document) => new vscode.SemanticTokens(new Uint32Array((await this.of("semanticTokens/full", document)).data)),
+    }, legend && new vscode.SemanticTokensLegend(legend.tokenTypes, legend.tokenModifiers));
     offer("documentFormattingProvider", "registerDocumentFormattingEditProvider", {
       provideDocumentFormattingEdits: async (document, options) =>
         (await this.ask("textDocument/formatting", { textDocument: { uri: document.uri.toString() }, options })).map(edit),

@@ -5,7 +5,6 @@
 - a text that was laid out stays as it is;
 - the parts that had other blanks between them come back to their columns.
 The last line counts."""
-import glob
 import os
 import random
 import re
@@ -17,21 +16,9 @@ sys.path.insert(0, os.path.dirname(os.path.abspath(__file__)))
 import client  # noqa: E402
 
 program, dice = os.path.abspath(sys.argv[1]), random.Random(int(sys.argv[2]))
-top = os.path.dirname(os.path.dirname(os.path.dirname(os.path.abspath(__file__))))
-names = sorted(glob.glob(os.path.join(top, "course", "**", "*.mixal"), recursive=True)) + sorted(glob.glob(os.path.join(top, "examples", "*.mixal")))
-passed = failed = 0
+names, row = client.sources(), client.Rows()
 # LOC, OP, ADDRESS and a remark, at the columns 1, 9, 14 and 27
 COLUMNS = re.compile(r'(?=.{8})(\S{1,7} *(?<=^.{8})| {8})([A-Z0-9]{2,4})(?: *(?<=^.{13})("[^"]{5}"|[^\s"]{1,12})(?: +(?<=^.{26})(\S.*))?)?$')
-
-
-def row(name, found, want):
-    global passed, failed
-    if found == want:
-        passed += 1
-    else:
-        failed += 1
-        if failed < 6:
-            print(f"FAILED {name}:\n  found  {found!r}\n  wanted {want!r}")
 
 
 def laid(server, uri, text):
@@ -89,5 +76,4 @@ for number, name in enumerate(names):
         else:
             row(f"{name}: its columns", new, first)
 row("the end", server.end(), 0)
-print(f"{passed} passed, {failed} failed")
-sys.exit(failed > 0)
+sys.exit(row.end())

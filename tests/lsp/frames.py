@@ -18,9 +18,10 @@ def frame(message):
 
 def talk():
     asked = [("initialize", {"capabilities": {"general": {"positionEncodings": [dice.choice(["utf-8", "utf-16", "utf-32"])]}}})]
-    for method in ("definition", "references", "rename", "documentSymbol", "documentHighlight"):
+    for method in ("definition", "references", "rename", "documentSymbol", "documentHighlight", "codeAction", "inlayHint", "semanticTokens/full"):
         where = {"line": dice.randint(0, 4), "character": dice.randint(0, 12)}
-        asked.append(("textDocument/" + method, {"textDocument": {"uri": URI}, "position": where, "newName": "NEW", "context": {"includeDeclaration": True}}))
+        params = {"textDocument": {"uri": URI}, "position": where, "range": {"start": where, "end": {"line": 9, "character": 0}}}
+        asked.append(("textDocument/" + method, {**params, "newName": "NEW", "context": {"includeDeclaration": True}}))
     text = "2H   LDA  X,1(2:3)  é\n     JMP  2B\nX    CON  5\n     END  2B\n"
     frames = [frame({"jsonrpc": "2.0", "id": n, "method": method, "params": params}) for n, (method, params) in enumerate(asked)]
     frames.insert(1, frame({"jsonrpc": "2.0", "method": "textDocument/didOpen", "params": {"textDocument": {"uri": URI, "version": 1, "text": text}}}))

@@ -2,23 +2,16 @@
 """What the server answers, message by message: tests/lsp/messages.py PROGRAM. The last line counts."""
 import json
 import os
+import random
+import re
+import string
 import subprocess
 import sys
 
 sys.path.insert(0, os.path.dirname(os.path.abspath(__file__)))
 import client  # noqa: E402
 
-program = sys.argv[1]
-passed = failed = 0
-
-
-def row(name, found, want):
-    global passed, failed
-    if found == want:
-        passed += 1
-    else:
-        failed += 1
-        print(f"FAILED {name}: {found}, and {want} was wanted")
+program, row = sys.argv[1], client.Rows(100)
 
 
 def frame(body):
@@ -157,6 +150,85 @@ row("a blank before an operation", mended(text, blank), text.replace("ADD", " AD
 row("quotation marks", mended(text, quoted), text.replace("    HELLO\n", ' "HELLO"\n'))
 row("two words", actions(3, 3, text), [])
 row("what mends all", [one["title"] for one in actions(0, 4, text)], [blank["title"], quoted["title"]])
+# of each line what is wrong, what the action is called, and the line after it; None: no action
+MEANT = [
+    (" LAD  X", "Write LDA", " LDA  X"),
+    (" addd X", "Write ADD", " ADD X"),
+    (" ST1N  X", "Write ST1", " ST1  X"),
+    ("A1B2 EUQ 1", "Write EQU", "A1B2 EQU 1"),
+    ("LAD  X", "Write LDA behind a blank", " LDA  X"),
+    ("ENTB", "Write ENTA behind a blank", " ENTA"),
+    ("JMP  2B", "Begin the line with a blank", " JMP  2B"),
+    (" WXYZ X", None, None),
+    (" LDA  TOTLA,1", "Write TOTAL", " LDA  TOTAL,1"),
+    (" LDA  totl(0:2)", "Write TOTAL", " LDA  TOTAL(0:2)"),
+    (" LDA  =TOTALS=", "Write TOTAL", " LDA  =TOTAL="),
+    (" CON  5+TOTA*2", "Write TOTAL", " CON  5+TOTAL*2"),
+    (" LDA  FIRS", "Write FIRST", " LDA  FIRST"),
+    (" LDA  OTHER", None, None),
+    (" LDA  9F+1", None, None),
+    ("TOTAM EQU TOTAM", None, None),
+    (" CON  LATEX+LATER", None, None),
+]
+for wrong, title, right in MEANT:
+    text = f"FIRST EQU 1\nTOTAL EQU 2\nTOTAK EQU 3\n{wrong}\nLATER CON 0\nLATEX EQU 4\n END  0\n"
+    found = [(one["title"], mended(text, one)) for one in actions(3, 3, text)]
+    row(f"the name that is meant: {wrong}", found, [(title, text.replace(wrong, right))] if title else [])
+LETTERS = string.ascii_uppercase + string.digits
+
+
+def slips(word):
+    """What a slip of the hand makes of a word: a letter less, another one, one more, or two exchanged."""
+    cuts = [(word[:at], word[at:]) for at in range(len(word) + 1)]
+    found = {a + b[1:] for a, b in cuts} | {a + c + b[more:] for a, b in cuts for c in LETTERS for more in (0, 1)} | {a + b[1::-1] + b[2:] for a, b in cuts}
+    return found - {word}
+
+
+# The operations in the order of C and F, and what is written instead of words that are near to one.
+ordered = sorted(every, key=lambda name: [int(number) for number in re.findall(r"\d+", every[name])[:2]]) + ["EQU", "ORIG", "CON", "ALF", "END"]
+dice = random.Random(7)
+words = [dice.choice(sorted(slips(dice.choice(ordered)) - {*ordered, ""})) for _ in range(300)]
+for at in range(0, len(words), 10):
+    wrong = words[at:at + 10]
+    want = ["Write " + next(name for name in ordered if word in slips(name)) for word in wrong]
+    row(f"operations that are near to {wrong}", [one["title"] for one in actions(0, 9, "".join(f" {word} 0\n" for word in wrong))], want)
+row("its kind", [one["kind"] for one in actions(0, 0, " ADDD\n")], ["quickfix"])
+text = "* é😀\rone\r\n LDA  TOTLA  é\r\nTOTAL EQU 0\r\n END  0\r\n"
+(meant,) = actions(2, 2, text)
+row("lines of the protocol", mended(text, meant), text.replace("TOTLA", "TOTAL"))
+server.change(uri, 10, [{"text": "X    EQU  1\n     LDA  X\n* a\n     CON  =5=\n\n     ALF  AB\n     END  1\n     LDA  X\n"}])
+
+
+def hints(first, last):
+    found = server.ask("textDocument/inlayHint", {"textDocument": {"uri": uri}, "range": {
+        "start": {"line": first, "character": 3}, "end": {"line": last, "character": 0}}})
+    return [(one["position"]["line"], one["position"]["character"], one["label"]) for one in found]
+
+
+row("hints of a text with a fault", hints(0, 9), [])
+server.change(uri, 11, [{"text": "X    EQU  1\n     LDA  =5=  é\n* a\n     CON  X\n\n     ORIG 0\n     ALF  AB\r\n     LDA  Y\n     END  1\n     LDA  X\n"}])
+every_hint = [(1, 16, "0000  + 00 02 00 05 08"), (3, 11, "0001  + 00 00 00 00 01"), (6, 12, "0000  + 01 02 00 00 00"), (7, 11, "0001  + 00 03 00 05 08")]
+row("hints of all lines", hints(0, 99), every_hint)
+row("hints of some lines", hints(3, 6), every_hint[1:3])
+row("hints of one line", hints(6, 6), every_hint[2:3])
+row("hints of no range", server.ask("textDocument/inlayHint", {"textDocument": {"uri": uri}})["code"], -32602)
+
+
+def tokens(text):
+    server.change(uri, 12, [{"text": text}])
+    return server.ask("textDocument/semanticTokens/full", {"textDocument": {"uri": uri}})["data"]
+
+
+row("tokens of nothing", tokens(""), [])
+row("tokens of a line", tokens("2H   LDA  =X+1=,2(1:3)  é😀 x\n"), [
+    0, 0, 2, 0, 0, 0, 5, 3, 1, 0, 0, 5, 5, 4, 0, 0, 6, 1, 3, 0, 0, 2, 1, 3, 0, 0, 2, 1, 3, 0, 0, 4, 5, 6, 0])
+row("tokens of characters", tokens('\n     ALF "A B" c\n     ALF  AB"C DE\n     ALF   "AB'), [
+    1, 5, 3, 1, 0, 0, 4, 5, 5, 0, 0, 6, 1, 6, 0, 1, 5, 3, 1, 0, 0, 5, 5, 5, 0, 0, 5, 2, 6, 0, 1, 5, 3, 1, 0, 0, 6, 3, 5, 0])
+row("tokens of remarks", tokens("* a\n\n     HLT  and 1\n     NOP\tX-2B \t rest"), [
+    0, 0, 3, 6, 0, 2, 5, 3, 1, 0, 0, 5, 5, 6, 0, 1, 5, 3, 1, 0, 0, 4, 1, 2, 0, 0, 2, 2, 2, 0, 0, 5, 4, 6, 0])
+row("a remark that a carriage return parts", tokens("* a\rb\n     NOP\n"), [2, 5, 3, 1, 0])
+row("no literal that ends", tokens(" LDA  =5\n LDA  5=6"), [
+    0, 1, 3, 1, 0, 0, 5, 2, 4, 0, 1, 1, 3, 1, 0, 0, 5, 1, 3, 0, 0, 2, 1, 3, 0])
 server.change(uri, 10, [{"text": "X    EQU  1 one\n     ALF  HE\n* LDA\n"}])
 row("what completes a remark", labels(0, 15) + labels(1, 12) + labels(2, 5), [])
 server.change(uri, 11, [{"text": "* a\n* b\n     NOP\n* c\n     NOP\n* d\n*\n* e"}])
@@ -165,5 +237,4 @@ row("folds", [(one["startLine"], one["endLine"], one["kind"]) for one in server.
 row("closed", server.tell("textDocument/didClose", {"textDocument": {"uri": uri}}) or server.hear()["params"], {"uri": uri, "diagnostics": []})
 row("a text that is not open", server.at("textDocument/definition", uri, {"line": 0, "character": 0})["code"], -32602)
 row("its end", server.end(), 0)
-print(f"{passed} passed, {failed} failed")
-sys.exit(failed > 0)
+sys.exit(row.end())

@@ -52,11 +52,23 @@ vim.bo.filetype = "mixal"
 row("a fault at its columns", await(function()
   return #vim.diagnostic.get(0) > 0
 end) and diagnostics(), { { 1, 5, 9, "A2", vim.diagnostic.severity.ERROR } })
-vim.api.nvim_buf_set_text(0, 1, 5, 1, 9, { "ADD " })
+local function range(first, last)
+  return { range = { start = { line = first, character = 0 }, ["end"] = { line = last, character = 0 } } }
+end
+
+local function action(line)
+  local params = { textDocument = vim.lsp.util.make_text_document_params(), context = { diagnostics = {} } }
+  for _, answer in pairs(vim.lsp.buf_request_sync(0, "textDocument/codeAction", vim.tbl_extend("force", params, range(line, line)), 20000)) do
+    vim.lsp.util.apply_workspace_edit(answer.result[1].edit, "utf-16")
+    return answer.result[1].title
+  end
+end
+row("the operation that is meant", action(1), "Write ADD")
+row("the line with it", vim.api.nvim_buf_get_lines(0, 1, 2, false), { "2H   ADD Y       é" })
 row("a warning after it is mended", await(function()
   local found = vim.diagnostic.get(0)
   return #found == 1 and found[1].severity == vim.diagnostic.severity.WARN
-end) and diagnostics(), { { 1, 10, 11, "undefined-symbol", vim.diagnostic.severity.WARN } })
+end) and diagnostics(), { { 1, 9, 10, "undefined-symbol", vim.diagnostic.severity.WARN } })
 
 vim.api.nvim_win_set_cursor(0, { 1, 11 })
 row("the definition of X", lines_of(ask("textDocument/definition")), { { 3, 0 } })
@@ -64,6 +76,12 @@ row("all that mentions X", lines_of(ask("textDocument/references", { context = {
 vim.api.nvim_win_set_cursor(0, { 3, 10 })
 row("the definition of 2B", lines_of(ask("textDocument/definition")), { { 1, 0 } })
 vim.api.nvim_win_set_cursor(0, { 1, 11 })
+row("what lines make", vim.tbl_map(function(one)
+  return { one.position.line, one.position.character, one.label }
+end, ask("textDocument/inlayHint", range(0, 1))), { { 0, 12, "0000  + 00 03 00 05 08" }, { 1, 18, "0001  + 00 04 00 05 01" } })
+row("tokens", vim.list_slice(ask("textDocument/semanticTokens/full").data, 1, 35), {
+  0, 0, 5, 0, 0, 0, 6, 3, 1, 0, 0, 5, 1, 2, 0, 1, 0, 2, 0, 0, 0, 5, 3, 1, 0, 0, 4, 1, 2, 0, 0, 8, 1, 6, 0,
+})
 vim.lsp.buf.rename("TOTAL")
 row("a new name", await(function()
   return vim.api.nvim_buf_get_lines(0, 3, 4, false)[1] == "TOTAL    CON  5"

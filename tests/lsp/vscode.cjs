@@ -20,6 +20,7 @@ function row(name, found, wanted) {
 
 const heard = {};
 const providers = {};
+const legends = [];
 const published = new Map();
 let told;
 class Kept {
@@ -50,8 +51,9 @@ const offers = new Proxy({}, {
       },
       dispose() {},
     })
-    : (language, provider) => {
+    : (language, provider, ...more) => {
       providers[name] = provider;
+      legends.push(...more);
       return { dispose() {} };
     },
 });
@@ -78,6 +80,9 @@ const vscode = {
   FoldingRange: class extends Kept {},
   FoldingRangeKind: { Comment: 1 },
   CodeAction: class extends Kept {},
+  InlayHint: class extends Kept {},
+  SemanticTokens: class extends Kept {},
+  SemanticTokensLegend: class extends Kept {},
   CodeActionKind: { QuickFix: "quickfix" },
   WorkspaceEdit: class {
     constructor() {
@@ -116,10 +121,25 @@ const document = { languageId: "mixal", version: 1, uri: { toString: () => "file
   await first;
   const shown = () => published.get("file:///t.mixal").map((one) => [one.range.start.line, one.range.start.character, one.code, one.severity]);
   row("a fault", shown(), [[1, 5, "A2", 0]]);
+  const meant = await providers.registerCodeActionsProvider.provideCodeActions(document, new Range(at(1, 0), at(1, 5)));
+  row("the operation that is meant", meant.map((one) => [one.parts[0], one.edit.texts[0][1].map((edit) => edit.parts)]), [
+    ["Write ADD", [[{ start: { line: 1, character: 5 }, end: { line: 1, character: 9 } }, "ADD"]]],
+  ]);
+  row("no hint in a text with a fault", await providers.registerInlayHintsProvider.provideInlayHints(document, new Range(at(0, 0), at(4, 0))), []);
   const second = news();
   heard.change({ document: { ...document, version: 2 }, contentChanges: [{ range: new Range(at(1, 8), at(1, 9)), text: "" }] });
   await second;
   row("a warning after a change", shown(), [[1, 9, "undefined-symbol", 1]]);
+  const hints = await providers.registerInlayHintsProvider.provideInlayHints(document, new Range(at(1, 0), at(2, 3)));
+  row("what lines make", hints.map((one) => [...one.parts, one.paddingLeft]), [
+    [{ line: 1, character: 10 }, "0001  + 00 03 00 05 01", true],
+    [{ line: 2, character: 11 }, "0002  + 00 00 00 00 05", true],
+  ]);
+  row("the kinds of tokens", legends.map((one) => one.parts), [[["label", "keyword", "variable", "number", "macro", "string", "comment"], []]]);
+  const tokens = await providers.registerDocumentSemanticTokensProvider.provideDocumentSemanticTokens(document);
+  row("tokens", Array.from(tokens.parts[0]), [
+    0, 0, 5, 0, 0, 0, 6, 3, 1, 0, 0, 5, 1, 2, 0, 1, 5, 3, 1, 0, 0, 4, 1, 2, 0, 1, 0, 1, 0, 0, 0, 5, 3, 1, 0, 0, 5, 1, 3, 0, 1, 5, 3, 1, 0, 0, 5, 5, 2, 0,
+  ]);
   const definition = await providers.registerDefinitionProvider.provideDefinition(document, at(0, 11));
   row("the definition", definition.map((one) => one.parts), [[{ text: "file:///t.mixal" }, { start: { line: 2, character: 0 }, end: { line: 2, character: 1 } }]]);
   const uses = await providers.registerReferenceProvider.provideReferences(document, at(0, 11), { includeDeclaration: false });

@@ -1,6 +1,7 @@
-mod FormatLemmas
 mod ItemLemmas
 mod MessageLemmas
+mod PairLemmas
 mod PlaceLemmas
 mod ResponseLemmas
 mod ServedLemmas
+mod TokenLemmas

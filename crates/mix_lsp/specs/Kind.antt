@@ -23,7 +23,9 @@ methods =
     (codes "textDocument/documentSymbol", kind.Look look.Symbols) ∷
     (codes "textDocument/foldingRange", kind.Look look.Folds) ∷
     (codes "textDocument/codeAction", kind.Look look.Actions) ∷
-    (codes "textDocument/formatting", kind.Look look.Format) ∷ []
+    (codes "textDocument/formatting", kind.Look look.Format) ∷
+    (codes "textDocument/inlayHint", kind.Look look.Hints) ∷
+    (codes "textDocument/semanticTokens/full", kind.Look look.Tokens) ∷ []
 
 -- what a name names among some rows, letter for letter
 abbrev pub kind_among : List ℕ → List (List ℕ × Kind) → Option Kind

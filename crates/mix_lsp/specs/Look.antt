@@ -10,9 +10,11 @@ use Rattle.mixal_asm.specs.declared.mentioned.Name.{Name}
 use Rattle.mix_lsp.specs.Actions.{actions_between}
 use Rattle.mix_lsp.specs.Completion.{completed}
 use Rattle.mix_lsp.specs.Document.{place_in, range_in}
+use Rattle.mix_lsp.specs.Encoded.{tokens_shown}
 use Rattle.mix_lsp.specs.Finder.{Sought}
 use Rattle.mix_lsp.specs.Folds.{folds_shown}
 use Rattle.mix_lsp.specs.Formatted.{formatted_shown}
+use Rattle.mix_lsp.specs.Hints.{hints_between}
 use Rattle.mix_lsp.specs.Hover.{hover_shown, said_at}
 use Rattle.mix_lsp.specs.Mentioned.{alike_at, defined, defining, edit, highlight, location, mention_at, mention_range, mentions_shown, new_text, spot_of, used}
 use Rattle.mix_lsp.specs.Message.{param, text_param}
@@ -89,14 +91,18 @@ symbols_shown uri s = list_of (mentions_shown (defined uri) s (defining (mention
 abbrev pub range_asked : Data → Option (Place × Place)
 range_asked m = option_and_then range_in (param (codes "range") m)
 
-abbrev pub actions_asked : List ℕ → Sought → Option (Place × Place) → Option Data
-actions_asked uri s None = None
-actions_asked uri s (Some range) = Some (list_of (actions_between uri s range.0 range.1))
+-- what is shown of the lines of a range of a text
+abbrev pub shown_in : Look → List ℕ → Sought → Place × Place → Option Data
+shown_in look.Actions uri s range = Some (list_of (actions_between uri s range.0 range.1))
+shown_in look.Hints uri s range = Some (list_of (hints_between s range.0 range.1))
+shown_in other uri s range = None
 
 -- what is shown of a text, or nothing where the parameters are not what they have to be
 abbrev pub shown : Look → List ℕ → Sought → Data → Option Data
 shown look.Symbols uri s m = Some (symbols_shown uri s)
 shown look.Folds uri s m = Some (list_of (folds_shown s))
-shown look.Actions uri s m = actions_asked uri s (range_asked m)
 shown look.Format uri s m = Some (list_of (formatted_shown s))
+shown look.Tokens uri s m = Some (tokens_shown s)
+shown look.Actions uri s m = option_and_then (shown_in look.Actions uri s) (range_asked m)
+shown look.Hints uri s m = option_and_then (shown_in look.Hints uri s) (range_asked m)
 shown other uri s m = option_and_then (shown_at other uri s m) (position_of m)

@@ -18,7 +18,7 @@ use Rattle.mixal_asm.specs.declared.mentions.Role.{Role}
 use Rattle.mixal_asm.specs.declared.mentions.Role.TheVariants.{Definition, Use}
 use Rattle.mix_lsp.specs.Finder.{Sought}
 use Rattle.mix_lsp.specs.Place.{rest_at}
-use Rattle.mix_lsp.specs.Range.{range_of}
+use Rattle.mix_lsp.specs.Range.{range_of, text_edit}
 use Rattle.mix_lsp.specs.declared.mention.Show.{Show}
 use Rattle.mix_lsp.specs.declared.mention.Show.TheVariants as show
 use Rattle.mix_lsp.specs.declared.place.Place.{Place}
@@ -151,8 +151,7 @@ abbrev pub mention_shown : Shown → Sought → Mention → Data
 mention_shown (location uri) s m = located uri (mention_range s m)
 mention_shown highlight s m =
     object (put (codes "kind") (number (unsigned (highlight_kind m.role))) (put (codes "range") (mention_range s m) no_members))
-mention_shown (edit new) s m =
-    object (put (codes "newText") (string new) (put (codes "range") (range_of s (m.line - 1) (name_span m.name m.at)) no_members))
+mention_shown (edit new) s m = text_edit s (m.line - 1) (name_span m.name m.at) new
 mention_shown (defined uri) s m =
     object (put (codes "location") (located uri (mention_range s m)) (put (codes "kind") (number (unsigned 13))
     (put (codes "name") (string (name_text m.name)) no_members)))

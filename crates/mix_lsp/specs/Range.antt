@@ -1,6 +1,6 @@
--- Places and ranges as JSON, of texts as the client counts them.
+-- Places, ranges and edits as JSON, of texts as the client counts them.
 use Rattle.std.specs.Prelude.{ℕ, List, codes}
-use Rattle.serde_json.specs.Data.{Data, array, no_members, number, object, put, unsigned}
+use Rattle.serde_json.specs.Data.{Data, array, no_members, number, object, put, string, unsigned}
 use Rattle.serde_json.specs.View.{items_of}
 use Rattle.mixal_text.specs.declared.misread.Span.{Span}
 use Rattle.mix_lsp.specs.Finder.{Sought}
@@ -17,6 +17,10 @@ range_shown from to = object (put (codes "end") (place_shown to) (put (codes "st
 -- some bytes of a line of a text, which is counted from 0
 abbrev pub range_of : Sought → ℕ → Span → Data
 range_of s line at = range_shown (place_of s.encoding s.text line at.from) (place_of s.encoding s.text line at.to)
+
+-- a text in their place
+abbrev pub text_edit : Sought → ℕ → Span → List ℕ → Data
+text_edit s line at new = object (put (codes "newText") (string new) (put (codes "range") (range_of s line at) no_members))
 
 abbrev pub list_of : List Data → Data
 list_of list = array (items_of list)

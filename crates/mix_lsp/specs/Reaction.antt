@@ -1,16 +1,18 @@
 -- What a message does: one row for each kind.
-use Rattle.std.specs.Prelude.{◌≡◌, ℕ, ℤ, List, [], ◌∷◌, codes, Bool, true, false, Option, None, Some, option_and_then, option_map}
+use Rattle.std.specs.Prelude.{◌≡◌, ℕ, ℤ, List, [], ◌∷◌, codes, Bool, true, false, map, Option, None, Some, option_and_then, option_map}
 use Rattle.serde_json.specs.Data.{Data, Items, Members, boolean, no_items, item, no_members, null, number, object, put, string, unsigned}
 use Rattle.serde_json.specs.Find.{as_array, as_str}
 use Rattle.serde_json.specs.View.{view}
 use Rattle.dap_stream.specs.Asked.{message_in}
 use Rattle.dap_message.specs.Request.{member_of}
 use Rattle.mix_lsp.specs.Document.{OpenText, changed_all, text_among, with_text, without}
+use Rattle.mix_lsp.specs.Encoded.{token_kinds}
 use Rattle.mix_lsp.specs.Encoding.{encoding_name, encoding_named}
 use Rattle.mix_lsp.specs.Kind.{kind_named}
 use Rattle.mix_lsp.specs.Look.{shown}
 use Rattle.mix_lsp.specs.Message.{changes_of, id_of, is_answer, method_of, param, refusal, reply, text_of, uri_of, version_of}
 use Rattle.mix_lsp.specs.Published.{published, published_list}
+use Rattle.mix_lsp.specs.Range.{list_of}
 use Rattle.mix_lsp.specs.declared.encoding.Encoding.{Encoding}
 use Rattle.mix_lsp.specs.declared.encoding.Encoding.TheVariants.{Utf16}
 use Rattle.mix_lsp.specs.declared.fault.Fault.{Fault}
@@ -87,12 +89,18 @@ sync_shown = object (put (codes "change") (number (unsigned 2)) (put (codes "ope
 abbrev pub rename_shown : Data
 rename_shown = object (put (codes "prepareProvider") (boolean true) no_members)
 
+-- the kinds of parts are told of a whole text, by their numbers among these
+abbrev pub tokens_provided : Data
+tokens_provided =
+    object (put (codes "full") (boolean true) (put (codes "legend") (object (put (codes "tokenModifiers") (list_of [])
+    (put (codes "tokenTypes") (list_of (map string token_kinds)) no_members))) no_members))
+
 -- what else is answered, by the names of the protocol
 abbrev pub providers : List (List ℕ)
 providers =
     codes "definitionProvider" ∷ codes "referencesProvider" ∷ codes "documentHighlightProvider" ∷ codes "documentSymbolProvider" ∷
     codes "hoverProvider" ∷ codes "foldingRangeProvider" ∷ codes "codeActionProvider" ∷
-    codes "documentFormattingProvider" ∷ []
+    codes "documentFormattingProvider" ∷ codes "inlayHintProvider" ∷ []
 
 abbrev pub put_providers : List (List ℕ) → Members → Members
 put_providers [] members = members
@@ -100,8 +108,9 @@ put_providers (name ∷ names) members = put_providers names (put name (boolean 
 
 abbrev pub capabilities : Encoding → Data
 capabilities e =
-    object (put_providers providers (put (codes "completionProvider") (object no_members) (put (codes "renameProvider") rename_shown
-    (put (codes "textDocumentSync") sync_shown (put (codes "positionEncoding") (string (encoding_name e)) no_members)))))
+    object (put_providers providers (put (codes "semanticTokensProvider") tokens_provided (put (codes "completionProvider") (object no_members)
+    (put (codes "renameProvider") rename_shown (put (codes "textDocumentSync") sync_shown
+    (put (codes "positionEncoding") (string (encoding_name e)) no_members))))))
 
 abbrev pub named : Data
 named = object (put (codes "name") (string (codes "mixrev")) no_members)

@@ -3,7 +3,9 @@
 ghost use Rattle.std.specs.Prelude.{◌≡◌, IfOk, OnOk, map, option_map};
 ghost use Rattle.serde_json.specs.View.{items_view, view};
 ghost use Rattle.dap_message.specs.Fields.{members_in};
-ghost use Rattle.mix_lsp.specs.Reaction.{abilities, capabilities, encoding_asked, encodings_of, first_known, known, named, put_providers, rename_shown, sync_shown};
+ghost use Rattle.mix_lsp.specs.Reaction.{abilities, capabilities, encoding_asked, encodings_of, first_known, known, named, put_providers, rename_shown, sync_shown, tokens_provided};
+ghost use Rattle.serde_json.specs.Data.{string};
+ghost use Rattle.mix_lsp.specs.Encoded.{token_kinds};
 
 use crate::encoding::Encoding;
 use crate::message::param;
@@ -79,11 +81,12 @@ fn capabilities(alloc: Global, encoding: Encoding) -> Result<Value, Memory>
     body.put("textDocumentSync", sync_shown(alloc)?)?;
     body.put("renameProvider", rename_shown(alloc)?)?;
     body.put("completionProvider", Fields::new(alloc).done())?;
+    body.put("semanticTokensProvider", tokens_shown(alloc)?)?;
     put_providers(&mut body, &PROVIDERS)?;
     Ok(body.done())
 }
 
-const PROVIDERS: [&str; 8] = [
+const PROVIDERS: [&str; 9] = [
     "definitionProvider",
     "referencesProvider",
     "documentHighlightProvider",
@@ -92,6 +95,7 @@ const PROVIDERS: [&str; 8] = [
     "foldingRangeProvider",
     "codeActionProvider",
     "documentFormattingProvider",
+    "inlayHintProvider",
 ];
 
 fn put_providers(body: &mut Fields, names: &[&str]) -> Result<(), Memory>
@@ -120,4 +124,31 @@ fn sync_shown(alloc: Global) -> Result<Value, Memory>
     sync.flag("openClose", true)?;
     sync.number("change", 2)?;
     Ok(sync.done())
+}
+
+// The kinds of tokens are told for a whole text, by their numbers among these.
+fn tokens_shown(alloc: Global) -> Result<Value, Memory>
+    ensures { IfOk result (λ v. view v ≡ tokens_provided) }
+{
+    let mut legend = Fields::new(alloc);
+    legend.list("tokenTypes", kind_names(alloc)?)?;
+    legend.list("tokenModifiers", Vec::new(alloc))?;
+    let mut tokens = Fields::new(alloc);
+    tokens.put("legend", legend.done())?;
+    tokens.flag("full", true)?;
+    Ok(tokens.done())
+}
+
+fn kind_names(alloc: Global) -> Result<Vec<Value>, Memory>
+    ensures { IfOk result (λ list. map view list.items ≡ map string token_kinds) }
+{
+    let mut list = Vec::new(alloc);
+    list.push(Value::try_from_str(alloc, "label")?)?;
+    list.push(Value::try_from_str(alloc, "keyword")?)?;
+    list.push(Value::try_from_str(alloc, "variable")?)?;
+    list.push(Value::try_from_str(alloc, "number")?)?;
+    list.push(Value::try_from_str(alloc, "macro")?)?;
+    list.push(Value::try_from_str(alloc, "string")?)?;
+    list.push(Value::try_from_str(alloc, "comment")?)?;
+    Ok(list)
 }

@@ -71,7 +71,8 @@ fn ends(front: &[u8], part: Part) -> bool
     part_span(front, part).to == front.len()
 }
 
-fn is_alf(front: &[u8]) -> bool
+/// Whether OP is ALF, which has no names in its ADDRESS.
+pub(crate) fn is_alf(front: &[u8]) -> bool
     ensures { result ≡ is_alf (op_of_line front.now) }
 {
     matches!(line_op(front), Ok(Mnemonic::Alf))
@@ -83,7 +84,8 @@ fn retain_symbols(list: &mut Vec<Mention>)
     list.retain(|mention| defines_symbol(mention));
 }
 
-fn defines_symbol(mention: &Mention) -> bool
+/// Whether it is the LOC of a line, and no dH.
+pub(crate) fn defines_symbol(mention: &Mention) -> bool
     ensures { result ≡ defines_symbol mention.now }
 {
     defines(mention.role) && matches!(mention.name, Name::Symbol(_))

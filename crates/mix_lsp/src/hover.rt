@@ -138,7 +138,8 @@ fn word_said(alloc: Global, word: Word) -> Result<String, Memory>
     Ok(said)
 }
 
-fn definition_in<'m>(mentions: &'m [Mention], name: &Name) -> Option<&'m Mention>
+/// The first definition of a name.
+pub(crate) fn definition_in<'m>(mentions: &'m [Mention], name: &Name) -> Option<&'m Mention>
     ensures { option_map (λ m. m.now) result ≡ definition_in mentions.now name.now }
 {
     mentions.iter().find(|mention| defines_name(name, mention))

@@ -22,8 +22,8 @@ pub(crate) enum Kind {
 
 /// What is looked at: of the name at a place its definitions, its mentions as a list or to be
 /// marked, its bytes, and a new name for it; what is said of what stands at a place, and what
-/// completes it; or of a text all names that it defines, its remarks, what mends its
-/// lines, and what puts it in columns.
+/// completes it; of the lines of a range what mends them, and what they make; or of a text all
+/// names that it defines, its remarks, what puts it in columns, and the kinds of its parts.
 #[derive(Clone, Copy)]
 pub(crate) enum Look {
     Definition,
@@ -33,10 +33,12 @@ pub(crate) enum Look {
     Rename,
     Hover,
     Completion,
+    Actions,
+    Hints,
     Symbols,
     Folds,
-    Actions,
     Format,
+    Tokens,
 }
 
 /// The methods that there are, by their names in the protocol.
@@ -62,6 +64,8 @@ fn methods() -> &'static [(&'static str, Kind)]
         ("textDocument/foldingRange", Kind::Look(Look::Folds)),
         ("textDocument/codeAction", Kind::Look(Look::Actions)),
         ("textDocument/formatting", Kind::Look(Look::Format)),
+        ("textDocument/inlayHint", Kind::Look(Look::Hints)),
+        ("textDocument/semanticTokens/full", Kind::Look(Look::Tokens)),
     ]
 }
 

@@ -4,14 +4,13 @@ ghost use Rattle.std.specs.Prelude.{◌≡◌, IfOk, codes, option_map};
 ghost use Rattle.mixal_asm.specs.Mentions.{mentions_of};
 ghost use Rattle.serde_json.specs.Data.{no_members, object, put};
 ghost use Rattle.serde_json.specs.View.{view};
-ghost use Rattle.mix_lsp.specs.Look.{alike_in, definitions_shown, edits_shown, flag_in, name_at, position_of, prepared, range_asked, references_shown, renamed, renamed_to, shown, shown_at, sought, symbols_shown, with_definitions};
+ghost use Rattle.mix_lsp.specs.Look.{alike_in, definitions_shown, edits_shown, flag_in, name_at, position_of, prepared, range_asked, references_shown, renamed, renamed_to, shown, shown_at, shown_in, sought, symbols_shown, with_definitions};
 ghost use Rattle.mix_lsp.specs.Mentioned.{mentions_shown, shown_by};
 ghost use Rattle.mix_lsp.specs.Range.{list_of};
 
 use crate::document::{place_in, range_in};
 use crate::encoding::Encoding;
 use crate::finder::Finder;
-use crate::formatted::formatted_shown;
 use crate::kind::Look;
 use crate::mention::{Show, mention_range, mentions_shown};
 use crate::mentioned::{alike_at, mention_at, name_at, retain_definitions, retain_used};
@@ -42,19 +41,26 @@ impl<'t> Open<'t> {
         match look {
             Look::Symbols => Ok(Some(self.symbols()?)),
             Look::Folds => Ok(Some(self.folds()?)),
-            Look::Actions => match range_asked(message) {
-                Some((from, to)) => Ok(Some(self.actions(from, to)?)),
+            Look::Format => Ok(Some(self.formatted()?)),
+            Look::Tokens => Ok(Some(self.tokens()?)),
+            Look::Actions | Look::Hints => match range_asked(message) {
+                Some((from, to)) => self.shown_in(look, from, to),
                 None => Ok(None),
             },
-            Look::Format => Ok(Some(Value::Array(formatted_shown(
-                self.alloc,
-                self.encoding,
-                self.text,
-            )?))),
             _ => match position_of(message) {
                 Some(at) => self.shown_at(look, message, at),
                 None => Ok(None),
             },
+        }
+    }
+
+    fn shown_in(&self, look: Look, from: Place, to: Place) -> Result<Option<Value>, Memory>
+        ensures { IfOk result (λ v. option_map view v ≡ shown_in look self.now.uri.now (sought self.now) (from, to)) }
+    {
+        match look {
+            Look::Actions => Ok(Some(self.actions(from, to)?)),
+            Look::Hints => Ok(Some(self.hints(from, to)?)),
+            _ => Ok(None),
         }
     }
 
@@ -69,7 +75,7 @@ impl<'t> Open<'t> {
             Look::Rename => self.renamed(at, text_param(message, "newName")),
             Look::Hover => Ok(Some(self.hover(at)?)),
             Look::Completion => Ok(Some(self.completion(at)?)),
-            Look::Symbols | Look::Folds | Look::Actions | Look::Format => Ok(None),
+            _ => Ok(None),
         }
     }
 

@@ -6,7 +6,7 @@ ghost use Rattle.mix_lsp.specs.Mentioned.{defined, edit, highlight, highlight_ki
 ghost use Rattle.mix_lsp.specs.Range.{range_of};
 
 use crate::finder::Finder;
-use crate::ranges::range_of;
+use crate::ranges::{range_of, text_edit};
 use dap_message::Fields;
 use mix_refused::Memory;
 use mixal_asm::{Mention, Name, Role};
@@ -81,10 +81,7 @@ fn edited(
     ensures same { finder.new ≡ finder.old }
 {
     let at = name_span(&mention.name, mention.at);
-    let mut shown = Fields::new(alloc);
-    shown.put("range", mention_range(alloc, finder, mention, at)?)?;
-    shown.text("newText", new)?;
-    Ok(shown.done())
+    text_edit(alloc, finder, mention.line.saturating_sub(1), at, new)
 }
 
 pub(crate) fn mention_range(
@@ -139,7 +136,8 @@ fn item_shown(alloc: Global, name: &Name) -> Result<Value, Memory>
     Ok(shown.done())
 }
 
-fn name_text(alloc: Global, name: &Name) -> Result<String, AllocError>
+/// The name, a local symbol as the dH that defines it.
+pub(crate) fn name_text(alloc: Global, name: &Name) -> Result<String, AllocError>
     ensures { IfOk result (λ t. string_bytes t ≡ name_text name.now) }
 {
     match name {

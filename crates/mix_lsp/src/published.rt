@@ -137,7 +137,8 @@ fn level(finding: &Finding) -> u64
     }
 }
 
-fn span_of(at: Option<Span>) -> Span
+/// The bytes that a diagnostic is about; none where its line begins, if it is about none.
+pub(crate) fn span_of(at: Option<Span>) -> Span
     ensures { result ≡ span_of at }
 {
     match at {
