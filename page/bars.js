@@ -18,15 +18,14 @@ export class Bars {
     this.store = store;
     this.strip = new Strip(store);
     this.code = new Set(); // the cells of instructions
-    this.range = new CellRange(store, "bars", () => this.isOpen, () => this.show());
-    on("bars-box", "toggle", () => {
-      this.show();
-      this.range.ask();
-    });
-    on("bars-by", "change", () => this.show());
-    on("bars-field", "input", () => this.show());
+    this.range = new CellRange(store, "bars", () => this.show());
+    for (const [id, event] of [["bars-box", "toggle"], ["bars-by", "change"], ["bars-field", "input"]]) {
+      on(id, event, () => this.show());
+    }
     store.on("view", () => this.show());
-    store.on("program", (program) => this.setProgram(program));
+    store.on("program", ({ rows }) => {
+      this.code = new Set(rows.filter(({ instruction }) => instruction).map(({ cell }) => cell));
+    });
     store.on("forget", () => this.forget());
     keepsPictures(store, "bars", "picture", "#bars svg, #strip:not([hidden]) svg");
   }
@@ -61,23 +60,17 @@ export class Bars {
     if (!numbers) return; // another program was opened meanwhile
     const widths = named.map((_, index) => numbers[2 * index + 1] - numbers[2 * index] + 1 || 0);
     const best = Math.max(0, ...widths.filter((width) => width <= MAX_BARS));
-    this.range.ends = kept ? [from, to] : named[widths.indexOf(best)] || ["0", "9"];
     $("bars-by").value = FIELD.test(by) ? "field" : by === "characters" ? by : "number";
     if (FIELD.test(by)) $("bars-field").value = by;
     this.strip.toggle(strip === "strip");
     $("bars-box").open = Boolean(kept) || best >= LEAST_BARS;
-    await this.range.ask();
+    await this.range.choose(kept ? [from, to] : named[widths.indexOf(best)] || ["0", "9"]);
   }
 
   forget() {
     $("bars-box").open = false;
     this.range.cells = [];
     $("bars").replaceChildren();
-  }
-
-  setProgram({ rows }) {
-    this.code = new Set(rows.filter(({ instruction }) => instruction).map(({ cell }) => cell));
-    this.range.ask();
   }
 
   show() {

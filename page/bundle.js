@@ -1,5 +1,5 @@
-// The bundle: a source, perhaps `%DEVICES` and a deck, perhaps `%SCRIPT` and a script. Cards are
-// shown apart from the rest of the deck. What the page keeps in a script are remarks.
+// The bundle: a source, perhaps a deck, perhaps a script. Cards are shown apart from the rest of
+// the deck. What the page keeps in a script are remarks.
 
 const HEADER_OF_CARDS = /^%unit[ \t]+0?16(?![0-9])/i;
 const KEPT = "* Kept by the page, and no commands:";
@@ -7,26 +7,25 @@ const NAMES = {
   lesson: "lesson", breaks: "breakpoints at lines", bars: "bars", shown: "shown too", left: "still to do",
 };
 const remark = (name, text) => `* ${NAMES[name]}: ${text}`;
-const linesOf = (text) => text.replace(/\r\n?/g, "\n").split("\n");
+const linesOf = (text) => text.split(/\r?\n/);
 const whole = (text) => (text === "" || text.endsWith("\n") ? text : `${text}\n`);
 const linesIn = (text) => linesOf(whole(text)).slice(0, -1); // without what is behind the last end of a line
 const textOfLines = (lines) => lines.map((line) => `${line}\n`).join("");
 
-function partsOf(text) {
+// The parts of a text by their lines, as the engine tells them.
+export function partsOf(text, told) {
   const lines = linesOf(text);
-  const find = (marker) => (lines.includes(marker) ? lines.indexOf(marker) : lines.length);
-  const script = find("%SCRIPT");
-  const devices = Math.min(find("%DEVICES"), script);
-  const part = (from, to) => lines.slice(from, to).join("\n") + (from < to && to < lines.length ? "\n" : "");
-  return { source: part(0, devices), deck: part(devices + 1, script), script: part(script + 1, lines.length) };
+  const [source, deck, script] = ["source", "deck", "script"].map((name) => {
+    const { from, until } = told.find(({ part }) => part === name) || { from: 1, until: 0 };
+    return lines.slice(from - 1, until).join("\n") + (from <= until && until < lines.length ? "\n" : "");
+  });
+  return { source, deck, script };
 }
 
 export function bundleOf({ source, deck, script }) {
   const rest = (deck === "" ? "" : `%DEVICES\n${whole(deck)}`) + (script === "" ? "" : `%SCRIPT\n${whole(script)}`);
   return rest === "" ? source : whole(source) + rest;
 }
-
-export const isBundle = (text) => linesOf(text).some((line) => line === "%DEVICES" || line === "%SCRIPT");
 
 // A script of the commands that were done, and what else the page holds, as remarks.
 export function scriptOf({ done, left, breaks, ...texts }) {
@@ -36,24 +35,19 @@ export function scriptOf({ done, left, breaks, ...texts }) {
   return textOfLines(kept.length > 0 ? [...done, KEPT, ...kept] : done);
 }
 
-// Where the page kept nothing, all lines of a script are to be done at once.
-function keptIn(script) {
+// What the parts of a bundle open. Where the page kept nothing, all lines of a script are to be
+// done at once; of one that waits none is.
+export function openedOf({ source, deck, script }, waits) {
   const lines = linesIn(script);
   const at = lines.includes(KEPT) ? lines.lastIndexOf(KEPT) : lines.length;
   const after = (name) => {
     const begin = remark(name, "");
     return lines.slice(at + 1).filter((line) => line.startsWith(begin)).map((line) => line.slice(begin.length));
   };
-  const [breaks, shown, bars, lesson] = ["breaks", "shown", "bars", "lesson"].map((name) => after(name).join(" "));
-  const lineNumbers = breaks.split(" ").map(Number).filter((line) => line > 0);
-  return { done: lines.slice(0, at), left: after("left"), breaks: lineNumbers, shown: shown.split(" "), bars, lesson };
-}
-
-// One that waits has nothing that is done at once.
-export function openedOf(bundle, waits) {
-  const { script, ...parts } = partsOf(bundle);
-  const kept = keptIn(script);
-  return { ...parts, ...kept, ...(waits ? { done: [], left: [...kept.done, ...kept.left] } : {}) };
+  const [done, left, shown] = [lines.slice(0, at), after("left"), after("shown").join(" ").split(" ")];
+  const breaks = after("breaks").join(" ").split(" ").map(Number).filter((line) => line > 0);
+  const opened = { source, deck, breaks, shown, bars: after("bars").join(" "), lesson: after("lesson").join(" ") };
+  return waits ? { ...opened, done: [], left: [...done, ...left] } : { ...opened, done, left };
 }
 
 // After the header of unit 16, up to the next header.

@@ -1,22 +1,16 @@
 // Two runs side by side after as many changes. The one that was kept has an engine of its own, and
 // does its commands again.
 
-import { $, all, counted, fourDigits, keepRows, listed, make, on, put } from "./dom.js";
+import { $, all, counted, keepRows, listed, make, on, put } from "./dom.js";
 import { Machine } from "./machine.js";
-import { flagsOf } from "./memory.js";
+import { heldIn } from "./memory.js";
 import { Picture } from "./pictures.js";
 import { Session, WHOLE } from "./session.js";
 import { Papers } from "./units.js";
 
 const CELLS_COMPARED = 100; // cells that differ
 const MOST_NAMES = 30; // of what differs
-const valueIn = ({ number, characters }) => `${number} “${characters}”`;
-
-const comparedIn = (/** @type {View} */ { state, wordIn }, cells) => new Map(/** @type {any[]} */ ([
-  ...state.registers.map((register) => [`r${register.name}`, valueIn(register)]),
-  ...flagsOf(state).map(({ name, text }) => [name, text]),
-  ...cells.map((cell) => [`cell ${fourDigits(cell)}`, valueIn(wordIn(cell))]),
-]));
+const valueOfPart = ({ name, word, said }) => [name, said ?? `${word.number} “${word.characters}”`];
 
 export class Compare extends Picture {
   constructor(store) {
@@ -52,7 +46,7 @@ export class Compare extends Picture {
   // After all of its changes, if more are done here.
   async find() {
     const { session, of: { state: { done } } } = this;
-    return (await session.look(Math.min(done, session.total))).view;
+    return session.look(Math.min(done, session.total));
   }
 
   // Nothing while another moment is shown already.
@@ -61,8 +55,8 @@ export class Compare extends Picture {
     if (!other || !session || view !== this.store.view) return;
     const cells = differingCells(view, other);
     const more = Math.max(0, cells.length - CELLS_COMPARED);
-    const others = comparedIn(other, cells);
-    const rows = [...comparedIn(view, cells)].map(([name, here]) => ({ name, here, there: others.get(name) }));
+    const [mine, others] = [view, other].map((each) => heldIn(each, cells).map(valueOfPart));
+    const rows = mine.map(([name, here], at) => ({ name, here, there: others[at][1] }));
     this.papers.show(other);
     const printed = markRows();
     $("compare").hidden = false;

@@ -4,11 +4,13 @@ export const $ = (id) => /** @type {any} */ (document.getElementById(id));
 export const all = (selector, within = document) => /** @type {any[]} */ ([...within.querySelectorAll(selector)]);
 export const on = (id, event, work) => $(id).addEventListener(event, work);
 
+export const tenths = (number) => Math.round(10 * number) / 10;
+
 // A child that is a text stays a text. Numbers have a tenth at most.
 export function furnished(element, given, children) {
   for (const [key, value] of Object.entries(given)) {
     if (typeof value === "function") element.addEventListener(key, value);
-    else if (typeof value === "number") element.setAttribute(key, Math.round(value * 10) / 10);
+    else if (typeof value === "number") element.setAttribute(key, tenths(value));
     else if ((value ?? false) !== false) element.setAttribute(key, value === true ? "" : value);
   }
   element.append(...children);
@@ -27,6 +29,12 @@ export function mark(element, name, value) {
 
 export const isPressed = (id) => $(id).getAttribute("aria-pressed") === "true";
 
+// Shows a part of the page, where the window is too narrow for all.
+export function choose(name) {
+  $("main").dataset.tab = name;
+  for (const tab of all("#tabs button")) mark(tab, "aria-pressed", tab.dataset.tab === name);
+}
+
 // How far an event is from the left of an element, as a part of its width.
 export function partOf(element, { clientX }) {
   const { left, width } = element.getBoundingClientRect();
@@ -34,7 +42,7 @@ export function partOf(element, { clientX }) {
 }
 
 // The button to which the tab key comes; one is kept, at first that of a row.
-export const stopIn = (box) => box.querySelector("button[tabindex='0']");
+const stopIn = (box) => box.querySelector("button[tabindex='0']");
 
 export function keepStop(box, row = box) {
   const button = stopIn(box) || row.querySelector("button");
@@ -44,6 +52,12 @@ export function keepStop(box, row = box) {
 
 export function stepOf(key, page) {
   return { ArrowUp: -1, ArrowDown: 1, PageUp: -page, PageDown: page, Home: -Infinity, End: Infinity }[key];
+}
+
+// How dark each of some numbers is.
+export function heats(numbers) {
+  const most = Math.log(1 + Math.max(1, ...numbers));
+  return (number) => (Math.log(1 + number) / most).toFixed(2);
 }
 
 export const between = (least, number, most) => Math.max(least, Math.min(most, number));

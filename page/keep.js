@@ -15,25 +15,30 @@ const FRESH = "* What the program does\n        ORIG 1000\nSTART   ENTA 5       
 const EMBED = new URLSearchParams(window.location.search).get("embed"); // the parts that a frame shows, if it is one
 export const IN_FRAME = EMBED !== null;
 const addressOf = (fragment, search = "") => window.location.href.split(/[?#]/)[0] + search + fragment;
-const sourceOf = (bundle) => openedOf(bundle, true).source;
 
 function sharedLines(text, other) {
   const lines = new Set(other.split("\n").filter((line) => line.trim() !== ""));
   return text.split("\n").filter((line) => lines.has(line)).length;
 }
 
+function isOf(/** @type {Lesson} */ lesson, text) {
+  return Boolean(lesson) && [lesson.bundle, lesson.solution].some((parts) => parts?.source === text);
+}
+
 export class Keep {
+  lesson = /** @type {Lesson} */ (null);
+  isOther = false; // the text is another than the lesson's
+
   constructor(/** @type {App} */ app, /** @type {Lesson[]} */ lessons) {
     this.app = app;
     this.lessons = lessons;
-    this.lesson = null;
     app.store.on("texts", () => this.recognize());
     on("lessons", "change", () => this.choose());
     on("open", "click", () => $("file").click());
     on("file", "change", () => this.openFile());
     on("save", "click", () => this.save());
     on("share", "click", () => this.share());
-    on("new", "click", () => this.openLesson(null, FRESH).then(() => app.listing.cm.focus()));
+    on("new", "click", () => this.openFresh());
     for (const name of FRAMED) on(`frame-${name}`, "change", () => this.putFrame());
     for (const name of ["link", "frame"]) on(`${name}-copy`, "click", () => this.copy(`${name}-text`));
     on("moment-copy", "click", () => this.copyMoment());
@@ -41,17 +46,18 @@ export class Keep {
     on("help", "click", () => $("help-box").showModal());
     window.addEventListener("beforeprint", () => put($("on-paper"), this.heading));
     window.addEventListener("hashchange", () => this.openLink());
-    window.addEventListener("beforeunload", (event) => {
-      if (app.isEdited && !IN_FRAME && this.held !== this.bundle) event.preventDefault();
-    });
-    if (!IN_FRAME) setInterval(() => this.hold(), HELD_EVERY);
     document.body.classList.toggle("embed", IN_FRAME);
     if (IN_FRAME) this.frame();
-    if (IN_FRAME) app.store.on("view", () => this.linkWhole());
+    else {
+      setInterval(() => this.hold(), HELD_EVERY);
+      window.addEventListener("beforeunload", (event) => {
+        if (app.store.isEdited && this.held !== this.bundle) event.preventDefault();
+      });
+    }
   }
 
   isFree() {
-    if (!this.app.isEdited) return Promise.resolve(true);
+    if (!this.app.store.isEdited) return Promise.resolve(true);
     const box = $("leave");
     box.returnValue = "";
     box.showModal();
@@ -60,8 +66,8 @@ export class Keep {
     });
   }
 
-  setLesson(lesson) {
-    const { title = "", notes = "", answer = "", solution = "" } = lesson || {};
+  setLesson(/** @type {Lesson} */ lesson) {
+    const { title = "", notes = "", answer = "", solution = null } = lesson || {};
     this.lesson = lesson;
     $("notes-title").textContent = title;
     $("notes-text").innerHTML = notes;
@@ -70,20 +76,16 @@ export class Keep {
     $("answer-open").hidden = !solution;
   }
 
-  isOf(lesson, text) {
-    return Boolean(lesson) && [lesson.bundle, lesson.solution].some((bundle) => bundle && sourceOf(bundle) === text);
-  }
-
   // Names the text: a lesson, an edited one, or one's own, which has no line of it.
   recognize() {
-    const { talk, listing: { text } } = this.app;
-    const other = this.isOf(this.lesson, text) ? null : this.lessons.find((lesson) => this.isOf(lesson, text));
-    const isOwn = this.lesson && !other && sharedLines(text, sourceOf(this.lesson.bundle)) === 0;
+    const { talk, isOpening, listing: { text } } = this.app;
+    const other = isOf(this.lesson, text) ? null : this.lessons.find((lesson) => isOf(lesson, text));
+    const isOwn = this.lesson && !other && sharedLines(text, this.lesson.bundle.source) === 0;
     if (other || isOwn) {
       this.setLesson(other || null);
-      if (!this.app.isOpening) talk.lines = other ? openedOf(other.bundle, true).left : [];
+      if (!isOpening) talk.lines = other ? openedOf(other.bundle, true).left : [];
     }
-    this.isOther = Boolean(this.lesson) && !this.isOf(this.lesson, text);
+    this.isOther = Boolean(this.lesson) && !isOf(this.lesson, text);
     put($("lessons").options[0], this.isOther ? this.title : "your own program");
     $("lessons").value = this.lesson && !this.isOther ? String(this.lessons.indexOf(this.lesson)) : "";
     if (this.lesson) put($("notes-title"), this.title);
@@ -101,14 +103,22 @@ export class Keep {
     this.held ??= this.bundle; // what is opened first is what this address says
   }
 
-  async openLesson(lesson, bundle = lesson.bundle) {
-    if (!(await this.isFree())) return;
-    await this.put(lesson, openedOf(bundle, true));
+  async openLesson(lesson, parts = lesson.bundle) {
+    if (await this.isFree()) await this.put(lesson, openedOf(parts, true));
+  }
+
+  async openFresh() {
+    await this.openLesson(null, { source: FRESH, deck: "", script: "" });
+    this.app.listing.cm.focus();
   }
 
   // A bundle that was saved or shared; the reason why it is not opened.
   async openBundle(bundle) {
-    const opened = openedOf(bundle, false);
+    const { store } = this.app;
+    store.drop();
+    const parts = await store.cut(bundle);
+    if (!parts) return "";
+    const opened = openedOf(parts, false);
     const reason = tooLarge(opened.source);
     if (!reason) await this.put(this.lessons.find(({ name }) => name === opened.lesson) || null, opened);
     return reason;
@@ -119,23 +129,21 @@ export class Keep {
     $("file").value = "";
     if (!file || !(await this.isFree())) return;
     const reason = await this.openBundle(await file.text());
-    if (reason) this.app.tell(`${file.name} was not opened: ${reason}.`, true);
+    if (reason) this.app.store.tell(`${file.name} was not opened: ${reason}.`, true);
   }
 
   // Whether it is a link of the page.
   async openLink() {
-    let told = "is cut or was changed: it holds no program";
-    try {
-      const bundle = await bundleIn(window.location.hash);
-      if (bundle === null) return false;
-      const reason = (await this.isFree()) ? await this.openBundle(bundle) : "";
+    const bundle = await bundleIn(window.location.hash).catch((fault) => fault);
+    if (bundle === null) return false;
+    let reason = bundle instanceof RangeError && bundle.message;
+    if (typeof bundle === "string") {
+      reason = (await this.isFree()) && (await this.openBundle(bundle));
       if (!reason) return true;
-      told = `is not opened: ${reason}`;
-    } catch (fault) {
-      if (fault instanceof RangeError) told = `is not opened: ${fault.message}`;
     }
     if (!this.lesson) await this.openLesson(this.lessons[0]);
-    this.app.tell(`This link ${told}.`, true);
+    const told = reason ? `is not opened: ${reason}` : "is cut or was changed: it holds no program";
+    this.app.store.tell(`This link ${told}.`, true);
     return true;
   }
 
@@ -152,20 +160,21 @@ export class Keep {
   save() {
     const name = this.lesson ? this.lesson.name.replace("/", "_") : "program";
     saved(this.bundle, "text/plain", `${name}${this.isOther ? "-edited" : ""}.mixal`);
-    this.app.isEdited = false;
+    this.app.store.isEdited = false;
   }
 
   // Holds all in the address, so that nothing is lost by a reload. What is too long is not held.
   async hold() {
-    const { app: { store, time }, bundle, held } = this;
-    if (store.isBusy || time.isDragged || held === undefined || bundle === held) return;
+    const { app: { store }, bundle, held } = this;
+    if (store.isBusy || held === undefined || bundle === held) return;
     const fragment = await fragmentOf(bundle);
     if (bundle !== this.bundle) return;
     this.held = fragment.length <= LONGEST_HELD ? bundle : "";
     window.history.replaceState(null, "", this.held ? fragment : addressOf("#no-tour", window.location.search));
   }
 
-  // The parts that the author of a frame chose stand beside the program.
+  // The parts that the author of a frame chose stand beside the program, and a link leads to the
+  // whole page.
   frame() {
     const asked = EMBED.split(",").filter((name) => FRAMED.includes(name));
     for (const name of asked.length > 0 ? asked : FRAMED.slice(0, 3)) {
@@ -173,26 +182,23 @@ export class Keep {
       part.classList.add("chosen");
       document.querySelector(".side").append(part);
     }
+    this.app.store.on("view", async () => {
+      const { bundle } = this;
+      const fragment = await fragmentOf(bundle);
+      if (bundle === this.bundle) $("whole").href = addressOf(fragment);
+    });
   }
 
   putFrame() {
     const parts = FRAMED.filter((name) => $(`frame-${name}`).checked).join(",");
     const given = { title: this.lesson ? this.title : "A program of MIX", width: 800, height: 500 };
-    $("frame-text").value = make("iframe", { src: addressOf(this.fragment, `?embed=${parts}`), ...given }).outerHTML;
-  }
-
-  // In a frame a link leads to the whole page.
-  async linkWhole() {
-    const { bundle } = this;
-    const fragment = await fragmentOf(bundle);
-    if (bundle === this.bundle) $("whole").href = addressOf(fragment);
+    const src = addressOf($("link-text").value.replace(/^[^#]*/, ""), `?embed=${parts}`);
+    $("frame-text").value = make("iframe", { src, ...given }).outerHTML;
   }
 
   async share() {
-    const fragment = await fragmentOf(this.bundle);
-    const link = addressOf(fragment);
+    const link = addressOf(await fragmentOf(this.bundle));
     $("link-text").value = link;
-    this.fragment = fragment;
     this.putFrame();
     $("file-note").hidden = window.location.protocol !== "file:";
     const many = link.length.toLocaleString("en");
@@ -203,10 +209,10 @@ export class Keep {
   }
 
   copyMoment() {
-    const { memory, bars, listing, store: { session, view, refusal } } = this.app;
+    const { memory, bars, listing, store } = this.app;
     const cells = [...new Set([...memory.shownCells, ...bars.cells])].sort((a, b) => a - b);
-    if (!session) this.app.tell(`${refusal}. Nothing was copied.`, true);
-    else this.app.copy(`${this.heading}\n${momentOf(view, cells, listing.lineOf)}`, "The moment, as a text,");
+    if (!store.session) store.tell(`${store.refusal}. Nothing was copied.`, true);
+    else store.copy(`${this.heading}\n${momentOf(store.view, cells, listing.lineOf)}`, "The moment, as a text,");
   }
 
   copy(id) {

@@ -1,25 +1,25 @@
 // Beside each line its location, its word and how often it was executed. The lines of the last and
 // of the next step are marked, with a bow where a jump lies between, and those with a fault.
 
-import { $, between, fourDigits, isPressed, make, mark, on, onResize, put, stepOf } from "./dom.js";
-import { ZERO } from "./session.js";
+import { $, between, fourDigits, heats, isPressed, make, mark, on, onResize, put, stepOf } from "./dom.js";
 import { Source } from "./source.js";
 
 const PAGE = 15; // lines
 const PLACES = ["wrap", "gutter"]; // where a line has its class
 
 export class Listing {
+  points = new Set(); // the lines with a breakpoint
+  classed = []; // lines with a class
+  marks = []; // of what is wrong
+  found = /** @type {Found[]} */ ([]); // faults and warnings
+  said = new Map(); // their texts, by their lines
+  marked = 0; // the line that is next
+  left = 0; // the line just done
+  stop = null; // the line to which the tab key comes
+  bow = make("div", { class: "bow", "aria-hidden": "true" });
+
   constructor(/** @type {Store} */ store, grammar) {
     this.store = store;
-    this.points = new Set(); // the lines with a breakpoint
-    this.classed = []; // lines with a class
-    this.marks = []; // of what is wrong
-    this.bad = new Set(); // lines with a fault
-    this.said = new Map(); // the texts of faults and warnings, by their lines
-    this.times = new Uint32Array(); // how often cells were executed
-    this.heat = (_) => /** @type {string | number} */ (0); // how dark a line is
-    this.wordIn = (_) => ZERO;
-    this.bow = make("div", { class: "bow", "aria-hidden": "true" });
     this.source = new Source(grammar, {
       edited: (changes) => this.edited(changes),
       refused: (reason) => store.tell(`The text was not taken: ${reason}.`, true),
@@ -32,7 +32,7 @@ export class Listing {
     store.on("view", (view) => this.show(view));
     on("listing", "click", ({ target }) => {
       const row = target.closest(".line");
-      if (row) store.emit("toggle", Number(row.firstChild.textContent));
+      if (row) this.ask(Number(row.firstChild.textContent));
     });
     on("listing", "keydown", (event) => this.walk(event));
     on("columns", "click", () => this.shut(!this.isShut));
@@ -53,11 +53,11 @@ export class Listing {
   }
 
   lineText(line) { return this.cm.getLine(line - 1) || ""; }
-  textOf({ line, column, endColumn }) { return [...this.lineText(line)].slice(column - 1, endColumn - 1).join(""); }
 
   edited(changes) {
     if (changes.some(({ text, removed }) => text.length !== removed.length)) this.draw();
-    this.store.emit("edited", changes);
+    if (changes.some(({ text }) => text.some((line) => line.startsWith("%")))) this.store.emit("bundle", this.text);
+    else this.store.edited();
   }
 
   // A breakpoint goes with its line.
@@ -75,24 +75,13 @@ export class Listing {
     return isSet;
   }
 
-  // No program while the text is refused.
-  setProgram(program) {
-    const rows = program ? program.rows : [];
-    this.program = program;
-    this.lineOf = new Map(rows.map(({ line, cell }) => [cell, line]));
-    this.cellOf = new Map(rows.filter(({ line }) => line).map(({ line, cell }) => [line, cell]));
-    if (program) return;
-    Object.assign(this, { marked: 0, left: 0 });
-    this.mark();
-    this.draw();
-  }
-
-  get isShut() { return !isPressed("columns"); }
-
-  shut(isShut) {
-    mark($("columns"), "aria-pressed", !isShut);
-    $("source").classList.toggle("shut", isShut);
-    this.cm.refresh();
+  ask(asked) {
+    const { store } = this;
+    const line = this.lineFrom(asked);
+    if (!line) return store.tell(`No line from ${asked} on gives a word, so there is no breakpoint.`, true);
+    const told = this.toggle(line) ? "Breakpoint" : "No breakpoint";
+    const why = line === asked ? "" : `, the first from line ${asked} on that gives a word`;
+    return store.tell(`${told} at line ${line}${why}.`);
   }
 
   // The line that gives the word of a breakpoint asked for at a line; 0 where none does.
@@ -107,26 +96,42 @@ export class Listing {
     return [...new Set(cells)].filter((cell) => cell !== undefined).sort((a, b) => a - b);
   }
 
+  // No program while the text is refused.
+  setProgram(program) {
+    const rows = program ? program.rows : [];
+    this.program = program;
+    this.lineOf = new Map(rows.map(({ line, cell }) => [cell, line]));
+    this.cellOf = new Map(rows.filter(({ line }) => line).map(({ line, cell }) => [line, cell]));
+    if (!program) this.mark(0, 0);
+  }
+
+  get isShut() { return !isPressed("columns"); }
+
+  shut(isShut) {
+    mark($("columns"), "aria-pressed", !isShut);
+    $("source").classList.toggle("shut", isShut);
+    this.cm.refresh();
+  }
+
   // Marks the line at the location, or that of a HLT which was done, and the one that was left.
-  show(/** @type {View} */ { state, times, change, wordIn }) {
-    Object.assign(this, { times, wordIn });
-    this.marked = this.lineOf.get(state.halted ? change.location : state.location) || 0;
-    this.left = (change && !state.halted && this.lineOf.get(change.location)) || 0;
+  show(/** @type {View} */ { state, change }) {
+    const left = change && !state.halted ? this.lineOf.get(change.location) : 0;
     $("listing").classList.toggle("halted", state.halted);
-    this.mark();
-    this.draw();
+    this.mark(this.lineOf.get(state.halted ? change.location : state.location) || 0, left || 0);
     this.source.reveal(this.marked);
   }
 
-  mark() {
-    const { cm, marked, left } = this;
-    const found = [...this.said.keys()].map((line) => [line, this.bad.has(line) ? "wrong" : "warned"]);
+  mark(marked, left) {
+    const { cm } = this;
+    Object.assign(this, { marked, left });
+    const found = this.found.map(({ line, isFault }) => [line, isFault ? "wrong" : "warned"]);
     const wanted = [[marked, "at"], [left === marked ? 0 : left, "left"], ...found];
     cm.operation(() => {
       for (const [handle, name] of this.classed) for (const where of PLACES) cm.removeLineClass(handle, where, name);
       this.classed = wanted.map(([line, name]) => [cm.getLineHandle(line - 1), name]).filter(([handle]) => handle);
       for (const [handle, name] of this.classed) for (const where of PLACES) cm.addLineClass(handle, where, name);
     });
+    this.draw();
     this.bow.remove();
     if (!marked || !left || Math.abs(marked - left) < 2) return;
     const middle = (line) => cm.heightAtLine(line - 1, "local") + cm.defaultTextHeight() / 2;
@@ -137,20 +142,21 @@ export class Listing {
   }
 
   draw() {
-    const { cm } = this;
+    const { cm, store: { view } } = this;
     const { from, to } = cm.getViewport();
     const isDrawn = (handle) => handle && between(from, cm.getLineNumber(handle), to - 1) === cm.getLineNumber(handle);
+    const heatOf = isPressed("heat") && view ? heats([...view.times]) : () => 0;
     let stop = [this.stop, cm.getLineHandle(this.marked - 1)].find(isDrawn);
     cm.operation(() => cm.eachLine(from, to, (handle) => {
       stop ??= handle;
-      this.drawRow(handle, cm.getLineNumber(handle) + 1, handle === stop);
+      this.drawRow(handle, cm.getLineNumber(handle) + 1, handle === stop, heatOf);
     }));
   }
 
   // What was drawn beside a line.
   rowOf(handle) { return handle.gutterMarkers?.beside; }
 
-  drawRow(handle, line, isStop) {
+  drawRow(handle, line, isStop, heatOf) {
     if (!this.rowOf(handle)) {
       const beside = ["loc", "word", "times"].map((kind) => make("span", { class: kind }));
       const given = { class: "line", "cm-ignore-events": "true" };
@@ -160,7 +166,7 @@ export class Listing {
     const [button, ...beside] = row.children;
     const known = this.knownOf(line);
     const isSet = this.points.has(handle);
-    const heat = this.heat(line);
+    const heat = heatOf(Number(known.times));
     const title = this.said.get(line) || "";
     const drawn = [line, ...Object.values(known), isSet, isStop, heat, title].join(" ");
     if (row.drawn === drawn) return;
@@ -175,9 +181,10 @@ export class Listing {
   }
 
   knownOf(line) {
+    const { view } = this.store;
     const cell = this.cellOf.get(line);
-    if (cell === undefined) return { loc: "", word: "", times: "" };
-    return { loc: fourDigits(cell), word: this.wordIn(cell).word, times: String(this.times[cell] || "") };
+    if (cell === undefined || !view) return { loc: "", word: "", times: "" };
+    return { loc: fourDigits(cell), word: view.wordIn(cell).word, times: String(view.times[cell] || "") };
   }
 
   walk(event) {
@@ -192,7 +199,7 @@ export class Listing {
     this.rowOf(this.stop).firstChild.focus();
   }
 
-  setFound(found) {
+  setFound(/** @type {Found[]} */ found) {
     const { cm } = this;
     for (const each of this.marks) each.clear();
     this.marks = found.filter(({ column }) => column).map(({ line, column, endColumn, isFault }) => {
@@ -201,13 +208,11 @@ export class Listing {
       const first = column === endColumn ? Math.max(1, column - 1) : column; // the letter before what is missing
       return cm.markText(place(first), place(endColumn), { className: isFault ? "fault-text" : "warned-text" });
     });
-    this.bad = new Set(found.filter(({ isFault }) => isFault).map(({ line }) => line));
-    this.said = new Map();
-    for (const { line, text } of found) this.said.set(line, [...(this.said.get(line) || []), text]);
-    for (const [line, texts] of this.said) this.said.set(line, texts.join("; "));
-    mark($("text"), "aria-invalid", this.bad.size > 0);
-    this.mark();
-    this.draw();
+    this.found = found;
+    this.said.clear();
+    for (const { line, text } of found) this.said.set(line, [this.said.get(line), text].filter(Boolean).join("; "));
+    mark($("text"), "aria-invalid", found.some(({ isFault }) => isFault));
+    this.mark(this.marked, this.left);
   }
 
   print() {

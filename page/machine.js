@@ -27,14 +27,12 @@ function answersOf(bytes) {
   return answers;
 }
 
-export function refusalOf(/** @type {Answer} */ { success, body, message }) {
-  return success ? "" : body?.error?.format || message;
-}
+export const refusalOf = (/** @type {Answer} */ { success, message }) => (success ? "" : message);
 
-export function replyOf(answer) {
-  if (answer.success) return answer.body.result;
-  const number = answer.body?.error?.id || 0;
-  return `${number >= 200 && number < 300 ? "?" : "??"} ${refusalOf(answer)}\n`;
+// A refusal of the session is written as in a script.
+export function replyOf(/** @type {Answer} */ { success, body, message }) {
+  if (success) return body.result;
+  return `${Math.floor(body.error.id / 100) === 2 ? "?" : "??"} ${message}\n`;
 }
 
 // No memory, a trap, or a stop: the session of the engine is lost then.

@@ -17,7 +17,7 @@ async function begin() {
   takeTables(operations, characters);
   document.head.append(make("script", {}, library)); // the policy of the page names it by its sum
   const app = new App(new Machine(worker, module), grammarOf(JSON.parse(grammar)));
-  const told = (reason) => setTimeout(() => app.tell(`The page itself has a fault: ${reason}`, true));
+  const told = (reason) => setTimeout(() => app.store.tell(`The page itself has a fault: ${reason}`, true));
   window.addEventListener("unhandledrejection", ({ reason }) => told(reason));
   window.addEventListener("error", ({ message }) => told(message));
   fillCard();

@@ -31,84 +31,81 @@ function showWord(row, part, { word, number, characters }, /** @type {View} */ {
   put(row.querySelector(".unseen"), [isAltered && "altered", ...more].filter(Boolean).join(", "));
 }
 
-// Flags, location and clock, with the part that may be asked for.
-export const flagsOf = (/** @type {State} */ state) => [
-  { name: nameOf("over"), part: "over", text: state.over ? "on" : "off" },
-  { name: nameOf("cmp"), part: "cmp", text: COMPARED[state.cmp] },
-  { name: "location", part: "", text: fourDigits(state.location) },
-  { name: "clock", part: "", text: `${state.clock} u` },
-];
+// What a view holds: registers, flags, location and clock, and cells; each with its name, the part
+// that may be asked for, and its word or what it says.
+export const heldIn = (/** @type {View} */ { state, wordIn }, cells = []) => /** @type {any[]} */ ([
+  ...state.registers.map((word) => ({ name: `r${word.name}`, part: word.name, word })),
+  { name: nameOf("over"), part: "over", said: state.over ? "on" : "off" },
+  { name: nameOf("cmp"), part: "cmp", said: COMPARED[state.cmp] },
+  { name: "location", part: "", said: fourDigits(state.location) },
+  { name: "clock", part: "", said: `${state.clock} u` },
+  ...cells.map((cell) => ({ name: `cell ${fourDigits(cell)}`, part: `cell ${cell}`, word: wordIn(cell) })),
+]);
 
 export function showRegisters(/** @type {View} */ view) {
-  const row = ({ name }) => wordRow(name, `r${name}`);
+  const [registers, flags] = [true, false].map((isWord) => heldIn(view).filter(({ word }) => Boolean(word) === isWord));
+  const row = ({ part, name }) => wordRow(part, name);
   const held = () => make("dd", {}, make("span"), make("span", { class: "will" }));
   const flag = ({ name, part }) => make("div", {}, make("dt", {}, part ? asks(part, name) : name), held());
-  keepRows($("register-rows"), view.state.registers, ({ name }) => name, row, (element, register) => {
-    showWord(element, register.name, register, view);
+  keepRows($("register-rows"), registers, ({ part }) => part, row, (element, { part, word }) => {
+    showWord(element, part, word, view);
   });
   keepStop($("register-rows"));
-  keepRows($("flags"), flagsOf(view.state), ({ name }) => name, flag, (element, { part, text }) => {
+  keepRows($("flags"), flags, ({ name }) => name, flag, (element, { part, said }) => {
     const will = itemOf(view.next, part)?.after;
-    put(element.lastChild.firstChild, text);
+    put(element.lastChild.firstChild, said);
     put(element.lastChild.lastChild, will ? ` → ${COMPARED[will] || will}` : "");
     element.classList.toggle("altered", view.altered.has(part));
   });
 }
 
 // A moment as a text, to copy.
-export function momentOf(/** @type {View} */ { state, wordIn }, shown, lineOf) {
-  const row = (name, { word, number, characters }) => {
-    return `${name.padEnd(4)} ${word.padEnd(16)} ${number.padStart(11)}  “${characters}”`;
-  };
-  const line = lineOf.get(state.location);
+export function momentOf(/** @type {View} */ view, shown, lineOf) {
+  const line = lineOf.get(view.state.location);
   const more = { location: line ? ` (line ${line})` : "" };
-  const flags = flagsOf(state).map(({ name, text }) => `${name} ${text}${more[name] || ""}`);
-  if (state.halted) flags.push("halted");
-  const registers = state.registers.map((register) => row(`r${register.name}`, register));
-  return [...registers, flags.join(", "), ...shown.map((cell) => row(fourDigits(cell), wordIn(cell))), ""].join("\n");
+  const held = heldIn(view, shown);
+  const texts = held.filter(({ word }) => word).map(({ name, word: { word, number, characters } }) => {
+    return `${name.replace("cell ", "").padEnd(4)} ${word.padEnd(16)} ${number.padStart(11)}  “${characters}”`;
+  });
+  const flags = held.filter(({ word }) => !word).map(({ name, said }) => `${name} ${said}${more[name] || ""}`);
+  if (view.state.halted) flags.push("halted");
+  texts.splice(view.state.registers.length, 0, flags.join(", "));
+  return `${texts.join("\n")}\n`;
 }
 
 // The cells around M, which the next step uses; those that are not zero; or a range.
 export class Memory {
+  middle = 0; // the cell around which cells are shown
+  wanted = null; // the cell that is in view
+  shownCells = [];
+
   constructor(/** @type {Store} */ store) {
     this.store = store;
-    this.middle = 0; // the cell around which cells are shown
-    this.shownCells = [];
-    this.wanted = null; // the cell that is in view
-    this.range = new CellRange(store, "cells", () => this.which === "range", () => this.show());
-    on("cells-which", "change", () => this.chosen());
+    this.range = new CellRange(store, "cells", () => this.show());
+    on("cells-which", "change", () => this.show());
     store.on("view", () => this.show());
-    store.on("program", () => this.range.ask());
     onResize($("cells-box"), () => this.reveal());
     store.on("forget", () => Object.assign(this, { middle: -1 }));
     walks("cell-rows", 10);
     walks("register-rows", 9);
   }
 
-  get which() { return $("cells-which").value; }
-
-  chosen() {
-    this.range.ask();
-    this.show();
-  }
-
   showFrom(name) {
     $("cells-which").value = "range";
-    this.range.ends = [name, `${name}+19`];
-    this.chosen();
+    this.range.choose([name, `${name}+19`]);
   }
 
   show() {
     const { view } = this.store;
     if (!view) return;
-    const { operation, address } = (view.next && view.wordIn(view.state.location).instruction) || {};
+    const { operation, address } = view.next?.instruction || {};
     const used = OPERATIONS.get(operation)?.uses === "cell" && isCell(address) ? Number(address) : null;
     const { cell: met, unit, until } = view.conflict || {};
     const first = this.middle < 0 ? Math.min(view.state.location, CELLS - 1) : null; // of another program
     this.middle = met ?? used ?? first ?? this.middle;
     const near = upTo(Math.max(0, this.middle - 8), this.middle + 16);
     const filled = view.state.cells.map(({ cell }) => cell);
-    const all = { near, filled, range: this.range.cells }[this.which];
+    const all = { near, filled, range: this.range.cells }[$("cells-which").value];
     const shown = all.slice(0, CELLS_SHOWN);
     this.shownCells = shown;
     const fresh = (cell) => wordRow(`cell ${cell}`, fourDigits(cell), { "data-cell": String(cell) });
@@ -141,7 +138,8 @@ export class Memory {
 // Gives the warnings of symbols that are not defined.
 export function showSymbols({ symbols }, found, { listing, memory }) {
   const warnings = found.filter(({ code }) => code === "undefined-symbol");
-  const missing = new Set(warnings.map((each) => listing.textOf(each).toUpperCase()));
+  const textOf = ({ line, column, endColumn }) => [...listing.lineText(line)].slice(column - 1, endColumn - 1).join("");
+  const missing = new Set(warnings.map((each) => textOf(each).toUpperCase()));
   const row = ({ name, value, number }) => {
     const label = `${name}: show the cells from there on`;
     const button = make("button", { type: "button", "aria-label": label, click: () => memory.showFrom(name) }, name);

@@ -1,7 +1,7 @@
 // Pictures of all changes: a strip of moments below the bars, the map of time, and the tints of
 // lines and cells.
 
-import { $, all, between, counted, isPressed, mark, on, partOf, put, saved } from "./dom.js";
+import { $, all, between, counted, heats, isPressed, mark, on, partOf, put, saved } from "./dom.js";
 import { fileOf, mapOf, stripOf } from "./svg.js";
 
 const COLUMNS = 60; // of the strip, at most
@@ -52,7 +52,7 @@ export class Picture {
 export function keepsPictures(store, name, what, selector) {
   const file = () => fileOf(all(selector));
   on(`${name}-save`, "click", () => saved(file(), "image/svg+xml", `${name}.svg`));
-  on(`${name}-copy`, "click", () => store.emit("copy", file(), `The ${what}, as SVG,`));
+  on(`${name}-copy`, "click", () => store.copy(file(), `The ${what}, as SVG,`));
 }
 
 // A column for each of some moments, a row for each cell, as dark as its value is large.
@@ -62,7 +62,7 @@ export class Strip extends Picture {
     this.shown = null; // the cells that are drawn, by which field, the title
     on("strip", "click", (event) => {
       const column = this.found?.[Math.floor(partOf($("strip").firstChild, event) * this.found.length)];
-      if (column) store.emit("slide", column.moment);
+      if (column) store.slide(column.moment);
     });
     on("bars-strip", "click", () => this.toggle(!this.isOpen));
   }
@@ -113,7 +113,7 @@ export class TimeMap extends Picture {
     on("map", "click", (event) => {
       if (!this.found || !event.target.closest("svg")) return;
       const { total } = this.found;
-      store.emit("slide", between(0, Math.round(partOf($("map").querySelector(".field"), event) * total), total));
+      store.slide(between(0, Math.round(partOf($("map").querySelector(".field"), event) * total), total));
     });
     keepsPictures(store, "map", "map", "#map svg");
   }
@@ -141,7 +141,7 @@ export class TimeMap extends Picture {
       const counts = sums.slice(1).map((times, at) => times[cell] - sums[at][cell]);
       return { cell, count: last[cell], counts, first: counts.findIndex(Boolean), last: counts.findLastIndex(Boolean) };
     });
-    return { total, width, rows, many: cells.length, marks: marks.sort((a, b) => a.number - b.number) };
+    return { total, width, rows, many: cells.length, marks };
   }
 
   draw() {
@@ -166,8 +166,7 @@ export class TimeMap extends Picture {
       const place = line ? `Line ${line}` : `Location ${cell}`;
       return `${place}: ${counted(count, "time")}, between changes ${end(first) + 1} and ${end(last + 1)}.`;
     });
-    const parts = [...new Set(marks.map(({ part }) => part))].map((part) => {
-      const numbers = marks.filter((mark) => mark.part === part).map(({ number }) => number);
+    const parts = marks.map(({ part, numbers }) => {
       const changes = counted(numbers.length, "change");
       return `Written to ${part} by ${changes}, the first ${numbers[0]}, the last ${numbers[numbers.length - 1]}.`;
     });
@@ -175,29 +174,26 @@ export class TimeMap extends Picture {
   }
 }
 
-// Of each line by how often it was executed so far, and of each cell that is shown by how many of
-// all changes altered it, which its row says too.
+// Of each cell that is shown by how many of all changes altered it, which its row says too; the
+// listing tints its lines.
 export class Heat extends Picture {
   constructor(/** @type {Store} */ store, /** @type {Listing} */ listing, /** @type {Memory} */ memory) {
     super(store);
-    this.listing = listing;
     this.memory = memory;
-    store.on("view", (view) => this.show(view));
+    store.on("view", () => this.show());
     on("heat", "click", () => {
       mark($("heat"), "aria-pressed", !this.isOpen);
       $("main").classList.toggle("heat", this.isOpen); // a style that asks for the button takes time at each key
-      if (store.view) store.show(store.view);
+      listing.draw();
+      this.show();
     });
   }
 
   get isOpen() { return isPressed("heat"); }
 
-  show(/** @type {View} */ { times }) {
-    const { listing, memory, store: { session } } = this;
-    const heatOf = this.isOpen ? heats([...times]) : () => 0;
-    listing.heat = (line) => heatOf(times[listing.cellOf.get(line)] || 0);
-    listing.draw();
-    if (this.isOpen && session && session.total <= MOST_CHANGES) this.look(memory.shownCells.join());
+  show() {
+    const { session } = this.store;
+    if (this.isOpen && session && session.total <= MOST_CHANGES) this.look(this.memory.shownCells.join());
     else if (this.found) this.forget();
   }
 
@@ -213,9 +209,4 @@ export class Heat extends Picture {
       put(row.querySelector(".unseen + .unseen"), row.title);
     }
   }
-}
-
-function heats(numbers) {
-  const most = Math.log(1 + Math.max(1, ...numbers));
-  return (number) => (Math.log(1 + number) / most).toFixed(2);
 }

@@ -11,29 +11,29 @@ export function upTo(from, to) {
 }
 
 export class CellRange {
+  cells = [];
+
   // `name` begins the ids of its fields; `taken` hears of another range.
-  constructor(/** @type {Store} */ store, name, isWanted, taken) {
+  constructor(/** @type {Store} */ store, name, taken) {
     this.store = store;
-    this.isWanted = isWanted;
     this.taken = taken;
     this.fault = `${name}-fault`;
     this.fields = [$(`${name}-from`), $(`${name}-to`)];
-    this.cells = [];
     for (const field of this.fields) field.addEventListener("input", () => this.ask());
+    store.on("program", () => this.ask());
   }
 
   get ends() { return this.fields.map((field) => field.value.trim()); }
 
-  set ends(ends) { this.fields.forEach((field, index) => Object.assign(field, { value: ends[index] })); }
-
-  async ask() {
-    if (!this.isWanted()) return;
-    const { store, ends } = this;
-    const numbers = await store.enqueue(() => store.session.values(ends));
-    if (numbers) this.take(ends, numbers);
+  choose(ends) {
+    this.fields.forEach((field, index) => Object.assign(field, { value: ends[index] }));
+    return this.ask();
   }
 
-  take(ends, numbers) {
+  async ask() {
+    const { store, ends } = this;
+    const numbers = await store.enqueue(() => store.session.values(ends), () => null);
+    if (!numbers) return;
     const faults = ends.flatMap((end, index) => {
       mark(this.fields[index], "aria-invalid", !isCell(numbers[index]));
       if (isCell(numbers[index])) return [];
@@ -45,7 +45,7 @@ export class CellRange {
     if (faults.length === 0 && from > to) faults.push(`the range ends at ${to}, before it begins at ${from}`);
     put($(this.fault), faults.length > 0 ? `Not shown: ${faults[0]}.` : "");
     if (faults.length > 0) return;
-    this.cells = upTo(...numbers);
+    this.cells = upTo(from, to);
     this.taken();
   }
 }

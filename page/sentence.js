@@ -25,33 +25,29 @@ function whereIs(location, { lineOf }) {
 }
 
 // Operation and address are as they are in the source, if they come from there.
-function named(location, text, listing) {
+function named({ location, text }, operation, listing) {
   const line = listing.lineOf.get(location);
-  const [, operation, address = ""] = (line ? listing.lineText(line) : "").split(/[ \t]+/);
-  const [name] = text.split(" ");
-  const shown = OPERATIONS.get(name)?.uses === "-" ? operation : `${operation} ${address}`.trimEnd();
-  return `${line || fourDigits(location)} ${operation?.toUpperCase() === name ? shown : text}`;
+  const [, written = "", address = ""] = (line ? listing.lineText(line) : "").split(/[ \t]+/);
+  const shown = OPERATIONS.get(operation)?.uses === "-" ? written : `${written} ${address}`.trimEnd();
+  return `${line || fourDigits(location)} ${written.toUpperCase() === operation ? shown : text}`;
 }
 
-// A unit has `written` so many rows with the change.
-function alterationsOf(/** @type {Change} */ { items }, written, isControl) {
+// A unit has written so many rows `more` with the change than the view has.
+function alterationsOf(/** @type {Change} */ { items }, /** @type {View} */ { units }, operation = "", more = 0) {
   return items.map(({ part, what, block, before, after, beforeValue, afterValue }) => {
     if (part === "over") return `overflow goes ${after}`;
     if (part === "cmp") return `the comparison goes from ${COMPARED[before]} to ${COMPARED[after]}`;
     if (part.startsWith("break ")) return `breakpoint ${part.slice(6)} ${after}`;
     if (part.startsWith("unit ")) {
       if (block !== undefined) return `${part}: block ${block} is written`;
-      const output = isControl ? `${part} begins a new page` : `${part} writes row ${written(part)}`;
+      const rows = units.find(({ unit }) => `unit ${unit}` === part)?.rows?.length || 0;
+      const output = operation === "IOC" ? `${part} begins a new page` : `${part} writes row ${rows + more}`;
       return { output, place: `${part} goes to block ${after}` }[what];
     }
     const told = (word, number) => (number && Math.abs(Number(number)) < LARGE ? number : word);
     return `${nameOf(part)} from ${told(before, beforeValue)} to ${told(after, afterValue)}`;
   }).filter(Boolean);
 }
-
-const rowsOf = (/** @type {View} */ { units }, more) => (part) => {
-  return more + (units.find(({ unit }) => `unit ${unit}` === part)?.rows?.length || 0);
-};
 
 // What decides whether the program jumps.
 function factOf({ sentence, register }, f, /** @type {View} */ { state, units }) {
@@ -68,11 +64,11 @@ function factOf({ sentence, register }, f, /** @type {View} */ { state, units })
 }
 
 function nextOf(/** @type {View} */ view, /** @type {Listing} */ listing) {
-  const { next, wordIn, state: { location, cmp, registers } } = view;
-  if (isCommand(next)) return `${next.text}: ${listed(alterationsOf(next, rowsOf(view, 0)), MOST_PARTS)}`;
-  const name = named(location, next.text, listing);
+  const { next, state: { cmp, registers } } = view;
+  if (isCommand(next)) return `${next.text}: ${listed(alterationsOf(next, view), MOST_PARTS)}`;
+  const { operation, field: f, address: m, value } = next.instruction || {};
+  const name = named(next, operation, listing);
   if (!next.items) return `${name}: a step would be a fault, ${next.exceptionId} ${next.description}`;
-  const { operation, field: f, address: m, value } = wordIn(location).instruction;
   const row = OPERATIONS.get(operation);
   const V = `${value} (cell ${m}${fieldName(f)})`;
   if (row.name.startsWith("CMP")) {
@@ -85,31 +81,31 @@ function nextOf(/** @type {View} */ view, /** @type {Listing} */ listing) {
   const [cell, line] = [`cell ${m}${fieldName(f)}`, whereIs(Number(m), listing)];
   const will = filled(row.sentence, { r: row.register, M, V, cell, line, F: String(f) });
   if (row.uses === "jump") return `${name}: ${will}${factOf(row, f, view)}`;
-  const parts = alterationsOf(next, rowsOf(view, 1), row.name === "IOC");
+  const parts = alterationsOf(next, view, operation, 1);
   const subject = `${will.split(" becomes ")[0]} `;
   const isPlain = parts.length === 1 && parts[0].startsWith(`${subject}from`);
   if (isPlain) return `${name}: ${will}, ${parts[0].slice(subject.length)}`;
   return [name, will, ...(parts.length > 0 ? [listed(parts, MOST_PARTS)] : [])].join(": ");
 }
 
-// Nothing where that can't be seen.
-function isTaken({ location, text, items }, { state, wordIn }) {
-  if (/^(JMP|JSJ)\b/.test(text) || state.location !== location + 1 || itemOf({ items }, "J")) return true;
-  return wordIn(location).instruction?.address === String(location + 1) ? undefined : false;
-}
-
-// A view as it is after the change.
+// Of a view as it is after the change. Where a jump leads to the next location and rJ held it
+// already, the machine does not show whether the program jumped.
 function didOf(/** @type {Change} */ change, /** @type {View} */ view, listing) {
   const { location, text, time } = change;
-  const row = isCommand(change) ? undefined : OPERATIONS.get(text.split(" ")[0]);
-  const parts = alterationsOf(change, rowsOf(view, 0), row?.name === "IOC");
-  const at = whereIs(view.state.location, listing);
-  const jumps = { true: `jumps to ${at}`, false: "does not jump" };
-  if (row?.uses === "jump") parts.unshift(jumps[isTaken(change, view)] || `goes on at ${at}`);
-  if (parts.length === 0 && row?.name.startsWith("CMP")) parts.push(`the comparison stays ${COMPARED[view.state.cmp]}`);
-  if (row?.name === "HLT") parts.push("halts");
-  const did = listed(parts, MOST_PARTS) || "nothing is altered";
-  return row ? `${named(location, text, listing)}: ${did} (${time} u)` : `${text}: ${did}`;
+  const { state } = view;
+  const none = "nothing is altered";
+  if (isCommand(change)) return `${text}: ${listed(alterationsOf(change, view), MOST_PARTS) || none}`;
+  const { operation, address } = change.instruction;
+  const [row, did] = [OPERATIONS.get(operation), alterationsOf(change, view, operation)];
+  if (row.uses === "jump") {
+    const isTaken = ["JMP", "JSJ"].includes(operation) || state.location !== location + 1 || itemOf(change, "J");
+    const isUnseen = !isTaken && address === String(location + 1);
+    const at = whereIs(state.location, listing);
+    did.unshift(isTaken ? `jumps to ${at}` : isUnseen ? `goes on at ${at}` : "does not jump");
+  }
+  if (did.length === 0 && row.name.startsWith("CMP")) did.push(`the comparison stays ${COMPARED[state.cmp]}`);
+  if (operation === "HLT") did.push("halts");
+  return `${named(change, operation, listing)}: ${listed(did, MOST_PARTS) || none} (${time} u)`;
 }
 
 // What is told of a moment. `answer` is that to the command which led to it from the view `before`;
@@ -121,17 +117,18 @@ export function toldOf(/** @type {Shown} */ { answer, before, view, listing }) {
   const last = change ? didOf(change, view, listing) : "";
   const next = step ? `Next: ${nextOf(view, listing)}.` : "";
   const refusal = answer ? refusalOf(answer) : "";
-  if (step && !step.items && answer?.success && answer.body.result.includes(": fault ")) {
+  const fault = answer?.body.fault;
+  if (fault) {
     const count = state.done - was;
     const steps = count > 0 ? ` ${counted(count, "step")} ${count === 1 ? "was" : "were"} done before it.` : "";
-    const fault = `Fault ${step.exceptionId} ${step.description}, at ${at}.${steps} The step was not done.`;
-    return { last, did: fault, next, isFault: true };
+    const did = `Fault ${fault.exceptionId} ${fault.description}, at ${at}.${steps} The step was not done.`;
+    return { last, did, next, isFault: true };
   }
   const help = refusal.startsWith("C1 ") ? ", Help has a list of the commands" : "";
   if (refusal) return { last, did: `Refused: ${refusal}${help}.`, next, isFault: true };
   const rows = printed(before, view);
   const conflict = view.conflict ? `Conflict: ${view.conflict.text}. ` : "";
-  if (state.halted) return { last, did: conflict + haltedAt(state, was) + rows, next: "Back goes back." };
+  if (state.halted) return { last, did: conflict + haltedAt(state, was) + rows, next: "Back takes the HLT back." };
   const begin = listing.breakCells.includes(state.location) ? `Breakpoint at ${at}. ` : "";
   return { last, did: conflict + begin + wayOf(before, was, state, last, rows), next };
 }
@@ -152,9 +149,9 @@ function printed(before, view) {
 }
 
 function wayOf(/** @type {View} */ before, was, /** @type {State} */ { done, ahead }, last, rows) {
-  if (done === was) return (done === 0 ? "At the start." : `Did ${last}.`) + rows;
-  if (done === was - 1) return `Taken back: ${before.did}.${rows}`;
   const here = done === 0 ? "At the start." : `The last: ${last}.`;
+  if (done === was) return (last ? `Did ${last}.` : here) + rows;
+  if (done === was - 1) return `Taken back: ${before.did}.${rows}`;
   if (done < was) return `${counted(was - done, "change")} taken back.${rows} ${here}`;
   if (done === was + 1) return `Did ${last}.${rows}`;
   const isRun = done === was + STEPS && ahead + before.state.ahead === 0;

@@ -7,8 +7,7 @@ import { Path } from "./path.js";
 const MOST_WRITES = 1000; // that the engine tells at once
 export const WHOLE = 5; // the field (0:5)
 const WHERE = ["mix/state", { cells: [], nonzero: false }]; // how many changes are done
-const NOP = { operation: "NOP", index: 0, field: 0, address: "0" };
-export const ZERO = { word: "+ 00 00 00 00 00", number: "0", characters: "     ", value: "0", instruction: NOP };
+const ZERO = { word: "+ 00 00 00 00 00", number: "0", characters: "     ", value: "0" };
 const repl = (expression) => ["evaluate", { expression, context: "repl" }];
 
 function openingOf({ deck, cards, source }) {
@@ -17,8 +16,13 @@ function openingOf({ deck, cards, source }) {
     ["initialize", { adapterID: "mixrev", clientID: "page", linesStartAt1: true }],
     ["launch", { program: "program.mixal", ...texts, stopOnEntry: true }],
     ["configurationDone", {}],
-    repl("goto 0"), // it does nothing, and shows whether the engine tells lines
   ];
+}
+
+// Where words only ask something, they stand for no line.
+function loggedOf(command, answer) {
+  const { line } = answer.success ? answer.body : { line: command };
+  return { command: line ?? command, reply: replyOf(answer), isSaid: line === undefined };
 }
 
 export class Session {
@@ -28,7 +32,6 @@ export class Session {
     this.texts = texts;
     this.shown = shown;
     this.launched = null; // the answer to the launch
-    this.tellsLines = false; // whether the engine says which line of a script a person's words stand for
     this.log = /** @type {Logged[]} */ ([]); // each command with its reply
     this.state = /** @type {Partial<State>} */ ({ done: 0, ahead: 0 }); // that after the last command
     this.at = 0; // so many changes are done in the engine
@@ -56,7 +59,7 @@ export class Session {
     const way = isLost ? [...openingOf(this.texts), ...this.lines.map(repl)] : [];
     if (at !== (isLost ? this.done : this.at)) way.push(repl(`goto ${at}`));
     const answers = await this.machine.ask(this, [...way, ...requests]);
-    if (isLost) Object.assign(this, { launched: answers[1], tellsLines: answers[3].body?.line !== undefined });
+    if (isLost) this.launched = answers[1];
     this.at = at;
     return answers.slice(way.length);
   }
@@ -67,7 +70,7 @@ export class Session {
     const answers = await this.ask([...commands.map(repl), all, ["mix/units", {}], ...blocks], at);
     const [state, units, ...found] = answers.slice(commands.length).map(({ body }) => body);
     this.at = state.done;
-    const logged = commands.map((command, index) => this.loggedOf(command, answers[index]));
+    const logged = commands.map((command, index) => loggedOf(command, answers[index]));
     if (commands.length > 0) this.noticed(logged, state);
     const held = blocks.flatMap(([, { unit, block }], index) => {
       const { units: one } = found[index];
@@ -80,12 +83,6 @@ export class Session {
       altered: new Set(state.altered), field, ...(await this.momentOf(state, field)),
     };
     return { answers, logged, view };
-  }
-
-  // Where words only ask something, they stand for no line.
-  loggedOf(command, answer) {
-    const line = answer.success && this.tellsLines ? answer.body.line : command;
-    return { command: line ?? command, reply: replyOf(answer), isSaid: line === undefined };
   }
 
   // The last change and the next step, with the numbers of whole words, and in a field; how often
@@ -116,12 +113,12 @@ export class Session {
     const [check, program] = await this.bodies([["mix/check", { source: this.texts.source }], ["mix/program", {}]]);
     const found = check.diagnostics;
     if (!this.launched.success) return { found, refusal: this.launched.body.error };
-    const { view } = await this.look();
+    const view = await this.look();
     this.state = view.state;
     return { found, program, view };
   }
 
-  look(at = this.done) { return this.see([], at); }
+  async look(at = this.done) { return (await this.see([], at)).view; }
 
   // The answer to the last command, and a view, with the conflict of the change that is `met`. What
   // is tried is not kept if it is refused.
@@ -162,18 +159,18 @@ export class Session {
     }
   }
 
-  // The first of the moments ahead at which a condition of `until` holds.
+  // The first of the moments ahead at which a condition of `until` holds, if there is one.
   async next(conditions) {
     const back = repl(`goto ${this.done}`);
-    const answers = await this.ask(conditions.flatMap((condition) => [repl(`forth until ${condition}`), WHERE, back]));
-    const moments = conditions.map((_, index) => answers[3 * index + 1].body.done).filter((done) => done > this.done);
+    const tries = conditions.flatMap((condition) => [repl(`forth until ${condition}`), WHERE, back]);
+    const moments = (await this.bodies(tries)).map(({ done }) => done).filter((done) => done > this.done);
     return moments.length > 0 ? Math.min(...moments) : undefined;
   }
 
-  // The numbers of W-values; NaN for one that is refused.
+  // The numbers of W-values; NaN for one that has none.
   async values(expressions) {
-    const answers = await this.ask(expressions.map((expression) => ["evaluate", { expression, context: "watch" }]));
-    return answers.map(({ success, body }) => (success ? Number(body.result.split(" = ")[1]) : NaN));
+    const bodies = await this.bodies(expressions.map((expression) => ["evaluate", { expression, context: "watch" }]));
+    return bodies.map(({ number }) => Number(number));
   }
 
   async cellsAt(moments, cells, field) {
@@ -207,18 +204,19 @@ export class Session {
       const more = writes.map(({ number }) => number).reverse();
       const numbers = [...(isMore ? known.numbers : []), ...more].slice(-MOST_WRITES);
       written.set(of, { size, numbers });
-      marks.push(...numbers.map((number) => ({ number, part: of })));
+      if (numbers.length > 0) marks.push({ part: of, numbers });
     }
     return marks;
   }
 
   async altersOf(cells) {
-    const found = await this.bodies(cells.map((cell) => ["mix/writes", { part: `cell ${cell}` }]), this.total);
-    return new Map(cells.map((cell, index) => [cell, found[index].writes.length]));
+    const asked = cells.map((cell) => ["mix/writes", { part: `cell ${cell}`, count: 0, total: true }]);
+    const found = await this.bodies(asked, this.total);
+    return new Map(cells.map((cell, index) => [cell, found[index].total]));
   }
 
-  // The changes around this moment that wrote a part, and whether more may stand before or behind
-  // them; the last one that is done; the first one that is ahead.
+  // The changes around this moment that wrote a part, whether more may stand before or behind them,
+  // and then `many` in all; the last one that is done; the first one that is ahead.
   async writesOf(part) {
     const { done, total } = this;
     const writesUpTo = async (ends) => {
@@ -230,10 +228,12 @@ export class Session {
     const reaches = (writes) => writes.length < MOST_WRITES || writes[0].number <= done + 1;
     const near = reaches(all) ? [] : await writesUpTo([done + MOST_WRITES, done + 32 * MOST_WRITES]);
     const ahead = [...near, all].filter(reaches).pop().filter(({ number }) => number > done);
-    const last = before[before.length - 1];
-    const [change] = await this.bodies(last ? [["mix/change", { number: last.number }]] : [], total);
-    const next = ahead.length > 0 ? ahead[0].number : await this.next([part]);
     const isCut = [before.length === MOST_WRITES, !reaches(all)];
-    return { writes: [...before, ...ahead], isCut, last: change, next };
+    const counts = isCut.includes(true) ? [["mix/writes", { part, count: 0, total: true }]] : [];
+    const lasts = before.slice(-1).map(({ number }) => ["mix/change", { number }]);
+    const bodies = await this.bodies([...counts, ...lasts], total);
+    const [many, last] = [counts.length > 0 && bodies[0].total, bodies[counts.length]];
+    const next = ahead.length > 0 ? ahead[0].number : await this.next([part]);
+    return { writes: [...before, ...ahead], isCut, many, last, next };
   }
 }

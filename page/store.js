@@ -1,7 +1,8 @@
 // The texts, the session of what they say, and the moment that is seen. What is asked for is done
 // in its turn, and who has subscribed is told of what is new.
 
-import { counted } from "./dom.js";
+import { partsOf } from "./bundle.js";
+import { copied, counted } from "./dom.js";
 import { Session } from "./session.js";
 
 const PAUSE = 200; // milliseconds without a key before a text is assembled
@@ -9,34 +10,40 @@ const SESSIONS = 5; // sessions of other texts that can come back
 const SLOW = 400; // milliseconds before a stop is offered
 
 export class Store extends EventTarget {
+  session = /** @type {Session} */ (null); // none while the texts are refused
+  view = /** @type {View} */ (null);
+  refusal = ""; // why there is no session
+  warning = ""; // of a program that is accepted
+  isEdited = false; // since the program was opened or saved
+  kept = new Map(); // the last sessions of other texts in which something was done, by their texts
+  assembled = ""; // the texts of the session or of the refusal
+  timer = 0; // runs while a text is not assembled yet
+  last = /** @type {Promise<any>} */ (Promise.resolve()); // of what is to be done
+  left = 0; // so much still has to be done
+  generation = 0;
+
   // `read` gives the texts as they are now, and `shown` what a session has to look at too.
   constructor(machine, read, shown) {
     super();
     this.machine = machine;
     this.read = read;
     this.shown = shown;
-    this.session = /** @type {Session} */ (null); // none while the texts are refused
-    this.view = /** @type {View} */ (null);
-    this.refusal = ""; // why there is no session
-    this.warning = ""; // of a program that is accepted
-    this.kept = new Map(); // the last sessions of other texts in which something was done, by their texts
-    this.assembled = ""; // the texts of the session or of the refusal
-    this.timer = 0; // runs while a text is not assembled yet
-    this.last = /** @type {Promise<any>} */ (Promise.resolve()); // of what is to be done
-    this.left = 0; // so much still has to be done
-    this.generation = 0;
   }
 
   // Calls `work` whenever something is new:
   // - "texts": others; with what was found in them, the refusal or the program, and the first view
-  // - "program": it is accepted; "forget": another program was opened
+  // - "program": it is accepted; "forget": another one was opened; "bundle": a text that may be one
   // - "view": a moment is seen, with the answer that led to it and the view before
   // - "tell": something; "busy", "slow": whether it is; "failed": what went wrong
-  // - "slide": to a moment; "toggle", "edited"; "copy": a named text
   on(what, work) { this.addEventListener(what, (/** @type {any} */ { detail }) => work(...detail)); }
   emit(what, ...given) { this.dispatchEvent(new CustomEvent(what, { detail: given })); }
   tell(...said) { this.emit("tell", ...said); }
   get isBusy() { return this.left > 0 || this.timer !== 0; }
+
+  copy(text, name) {
+    const isDone = copied(text);
+    this.tell(isDone ? `${name} is copied.` : "This browser does not let the page copy.", !isDone);
+  }
 
   // What it gives, or nothing where it fails or was dropped.
   add(work) {
@@ -76,7 +83,8 @@ export class Store extends EventTarget {
     });
   }
 
-  assembleSoon() {
+  edited() {
+    this.isEdited = true;
     clearTimeout(this.timer);
     this.timer = setTimeout(() => {
       this.timer = 0;
@@ -88,7 +96,7 @@ export class Store extends EventTarget {
   // A session that was left for other texts comes back when its texts do.
   async assemble() {
     const texts = this.read();
-    const key = JSON.stringify([texts.source, texts.deck, texts.cards]);
+    const key = JSON.stringify(texts);
     if (key === this.assembled) return;
     const back = this.kept.get(key);
     const session = back || new Session(this.machine, texts, this.shown);
@@ -112,6 +120,20 @@ export class Store extends EventTarget {
     else if (this.warning) this.tell(this.warning);
   }
 
+  begin() {
+    this.kept.clear();
+    Object.assign(this, { session: null, assembled: "" });
+    return this.assemble();
+  }
+
+  // The parts of a text that may be a bundle, or nothing as `add` has it. Any session can tell
+  // them.
+  async cut(text) {
+    const { machine } = this;
+    const told = await this.add(() => machine.ask(machine.holder ?? this, [["mix/bundle", { text }]]));
+    return told && partsOf(text, told[0].body.parts);
+  }
+
   // `answer` is that to the command which led here from the moment of the view `before`.
   show(view, answer = null, before = null) {
     this.view = view;
@@ -120,14 +142,19 @@ export class Store extends EventTarget {
 
   look() {
     return this.enqueue(async () => {
-      const { view } = await this.session.look(this.view.state.done);
-      this.show({ ...view, conflict: this.view.conflict });
+      const { state, conflict } = this.view;
+      this.show({ ...(await this.session.look(state.done)), conflict });
     });
   }
 
-  begin() {
-    this.kept.clear();
-    Object.assign(this, { session: null, assembled: "" });
-    return this.assemble();
+  async did(found, before = this.view) {
+    const { answer, view } = await found;
+    this.isEdited = true;
+    this.show(view, answer, before);
   }
+
+  // Does commands, at whose end a change that conflicts is `met`, if there is one.
+  act(commands, before, met) { return this.did(this.session.act(commands, { met }), before); }
+  go(command) { return this.enqueue(() => this.act([command])); }
+  slide(moment) { return this.enqueue(() => this.did(this.session.slide(moment))); }
 }

@@ -1,7 +1,7 @@
 // Pictures of cells as SVG, which can be saved as they are. Their colours are those of the light
 // page; in the window the style of the page overrides them.
 
-import { fourDigits, furnished } from "./dom.js";
+import { fourDigits, furnished, tenths } from "./dom.js";
 
 const PLACE = "http://www.w3.org/2000/svg";
 const LETTER = 6.7; // the width of a letter
@@ -11,7 +11,6 @@ const WIDE = 720; // of a strip and of a map
 const THICK = { "stroke-width": 2 };
 const BOLD = { "font-size": 11, "font-weight": "bold" };
 const COLOURS = { ink: "#24211c", soft: "#5e5648", bar: "#224a69", mark: "#96281c", written: "#f6d98a" };
-const tenths = (number) => Math.round(10 * number) / 10;
 const shape = (name, given, ...children) => furnished(document.createElementNS(PLACE, name), given, children);
 const solid = (kind) => ({ class: kind, fill: COLOURS[kind] });
 const lined = (kind, colour, more) => ({ class: kind, fill: "none", stroke: COLOURS[colour], ...more });
@@ -106,12 +105,11 @@ export function stripOf({ title, cells, columns, done }) {
   return picture({ id: "strip", title: name, text, width: columns.length * wide, height }, shapes);
 }
 
-// `counts` is how often a row was executed in each stretch of `width` changes; `marks` have the
-// `number` of a change that wrote a `part`, each part on a row of its own.
+// `counts` is how often a row was executed in each stretch of `width` changes; `marks` are parts,
+// each with the `numbers` of changes that wrote it, on a row of its own.
 export function mapOf({ title, text, rows, width, marks, total, done }) {
-  const parts = [...new Set(marks.map(({ part }) => part))];
   const high = Math.max(3, Math.min(12, 300 / rows.length));
-  const left = LETTER * Math.max(4, ...parts.map((part) => part.length)) + 8;
+  const left = LETTER * Math.max(4, ...marks.map(({ part }) => part.length)) + 8;
   const most = Math.log(1 + Math.max(...rows.map(({ counts }) => Math.max(...counts))));
   const shade = (count) => (count === 0 ? 0 : Math.round(10 * (0.25 + (0.75 * Math.log(1 + count)) / most)) / 10);
   const every = Math.ceil(11 / high);
@@ -130,14 +128,13 @@ export function mapOf({ title, text, rows, width, marks, total, done }) {
   });
   for (const [dark, d] of boxes) shapes.push(shape("path", { d, "fill-opacity": String(dark), ...solid("bar") }));
   const foot = 4 + rows.length * high;
-  parts.forEach((part, row) => {
+  marks.forEach(({ part, numbers }, row) => {
     const y = foot + 4 + row * 12;
-    const own = marks.filter((mark) => mark.part === part);
-    const places = new Set(own.map(({ number }) => Math.round(left + (number / total) * WIDE)));
+    const places = new Set(numbers.map((number) => Math.round(left + (number / total) * WIDE)));
     const tipAt = (x) => shape("path", { d: `M ${x} ${y} l 3 9 h -6 z`, ...solid("mark") });
     shapes.push(named(y + 9, part, "mark"), ...[...places].map(tipAt));
   });
-  const height = foot + 8 + parts.length * 12;
+  const height = foot + 8 + marks.length * 12;
   shapes.push(upright(left + (done / Math.max(1, total)) * WIDE, height));
   shapes.push(box(left, 2, WIDE, height - 4, lined("field axis", "soft")));
   return picture({ id: "map", title, text, width: left + WIDE + 4, height }, shapes);

@@ -1,54 +1,73 @@
 // The commands with their replies, and the script that came with a program.
 
-import { $, between, make, on, put } from "./dom.js";
+import { $, between, counted, make, on, put } from "./dom.js";
 
 const LETTERS_SHOWN = 200000; // letters of a reply that are shown
 const ROWS_SHOWN = 10; // of a script
 
 export class Talk {
-  constructor(/** @type {App} */ app) {
-    this.shown = [];
-    this.typed = []; // what was typed, for the arrow keys
-    this.at = 0;
+  shown = /** @type {Logged[]} */ ([]);
+  typed = []; // what was typed, for the arrow keys
+  at = 0;
+  agreed = ""; // a command that is done when it is given again
+
+  constructor(/** @type {Store} */ store) {
+    this.store = store;
     on("command-form", "submit", (event) => {
       event.preventDefault();
       const command = $("command").value;
-      $("command").value = "";
       this.answer("", "");
       if (command.trim() === "") return;
       this.at = this.typed.push(command);
       $("log").setAttribute("aria-live", "polite");
-      app.given(command);
+      this.give(command);
     });
-    on("command", "keydown", (event) => this.recall(event));
-    on("script-lines", "input", () => Object.assign(app, { isEdited: true }));
-    app.store.on("view", () => this.show(app.store.session.log));
+    on("command", "keydown", (event) => {
+      const step = { ArrowUp: -1, ArrowDown: 1 }[event.key];
+      if (!step || this.typed.length === 0) return;
+      event.preventDefault();
+      this.at = between(0, this.at + step, this.typed.length);
+      $("command").value = this.typed[this.at] || "";
+    });
+    on("script-lines", "input", () => Object.assign(store, { isEdited: true }));
     for (const [id, count] of [["script-next", 1], ["script-all", Infinity]]) {
-      on(id, "click", () => app.store.enqueue(() => app.actScript(this.first(count))));
+      on(id, "click", () => store.enqueue(() => this.act(this.first(count))));
     }
-  }
-
-  recall(event) {
-    const step = { ArrowUp: -1, ArrowDown: 1 }[event.key];
-    if (!step || this.typed.length === 0) return;
-    event.preventDefault();
-    this.at = between(0, this.at + step, this.typed.length);
-    $("command").value = this.typed[this.at] || "";
+    store.on("view", () => this.show(store.session.log));
+    store.on("forget", () => this.show([]));
   }
 
   answer(command, text) {
-    if (command) $("command").value = command;
+    $("command").value = command;
     put($("command-note"), text);
+  }
+
+  // A `set` that would drop what is ahead is done when it is given twice.
+  give(command) {
+    const { store } = this;
+    const work = () => {
+      const { ahead } = store.session;
+      const drops = /^\s*set?\s/i.test(command) && ahead > 0 && this.agreed !== command;
+      if (!drops) return store.act([command]);
+      this.agreed = command;
+      return this.answer(command, `This drops ${counted(ahead, "change")} ahead. Press Enter again to do it.`);
+    };
+    store.enqueue(work, () => this.answer(command, `Not done, since the text is refused. ${store.refusal}.`));
+  }
+
+  // Does the first lines of the script; if one fails, they are still to be done.
+  async act(lines) {
+    const found = await this.store.session.act(lines);
+    this.lines = this.lines.slice(lines.length);
+    return this.store.did(found);
   }
 
   // The first lines of the script with so many commands; comments and blank lines are none.
   first(count) {
     const { lines } = this;
-    let end = 0;
-    for (let left = count; end < lines.length && left > 0; end += 1) {
-      if (lines[end].trim() !== "" && !lines[end].startsWith("*")) left -= 1;
-    }
-    return lines.slice(0, end);
+    const isCommand = (line) => line.trim() !== "" && !line.startsWith("*");
+    const last = lines.map((line, at) => (isCommand(line) ? at + 1 : 0)).filter(Boolean)[count - 1];
+    return lines.slice(0, last);
   }
 
   // The commands of the script that are still to be done, which a person may alter.
@@ -61,6 +80,7 @@ export class Talk {
   // Only what was typed is read out from here; the status tells the rest.
   show(log) {
     const box = $("log");
+    this.agreed = "";
     const isMore = this.shown.every((entry, index) => entry === log[index]);
     if (!isMore) box.replaceChildren();
     const more = isMore ? log.slice(this.shown.length) : log;

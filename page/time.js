@@ -1,121 +1,125 @@
 // Buttons, keys and the slider: ways through the changes, and the commands that they are.
 
-import { $, all, on, put } from "./dom.js";
-import { choose } from "./place.js";
+import { $, all, choose, on, put } from "./dom.js";
 import { STEPS } from "./sentence.js";
 
-const WAYS = all("#steps [aria-keyshortcuts]"); // the buttons, each with its key
+const CONTROLS = all("#time [data-needs]"); // each is of use where there is what it needs
 
 export class Time {
-  constructor(/** @type {App} */ app) {
-    this.app = app;
+  constructor(/** @type {Store} */ store, /** @type {Listing} */ listing) {
+    this.store = store;
+    this.listing = listing;
+    this.isDragged = false;
     this.wanted = undefined; // the moment that the slider asks for
-    this.others = {
-      F9: () => app.toggle(app.listing.source.caretLine),
-      F1: () => app.tell(app.listing.source.caretExplained || "The cursor is at no operation."),
+    this.keys = {
+      F9: () => listing.ask(listing.source.caretLine),
+      F1: () => store.tell(listing.source.caretExplained || "The cursor is at no operation."),
       "Control+Enter": () => {
         const isCommand = document.activeElement === $("command");
         choose(isCommand ? "program" : "talk");
-        if (isCommand) app.listing.cm.focus();
+        if (isCommand) listing.cm.focus();
         else $("command").focus();
       },
     };
-    this.isDragged = false;
-    for (const button of [...WAYS, $("beyond")]) button.addEventListener("click", () => app.press(button.id));
-    on("slider", "input", () => {
-      this.isDragged = true;
-      $("moment").value = $("slider").value;
-      this.preview(Number($("slider").value));
-    });
+    for (const button of CONTROLS.filter(({ type }) => type === "button")) {
+      button.addEventListener("click", () => this.press(button));
+      this.keys[button.getAttribute("aria-keyshortcuts")] = () => button.click();
+    }
+    on("slider", "input", () => this.preview(Number($("slider").value)));
     on("slider", "change", () => {
       this.isDragged = false;
-      app.slide(Number($("slider").value));
+      store.slide(Number($("slider").value));
     });
     on("moment", "change", () => {
       const n = $("moment").value.trim();
-      if (/^\d{1,10}$/.test(n)) app.go(`goto ${Number(n)}`);
+      if (/^\d{1,10}$/.test(n)) store.go(`goto ${Number(n)}`);
       else $("moment").value = $("slider").value;
     });
-    on("stop", "click", () => app.store.machine.stop());
-    document.addEventListener("keydown", (event) => this.pressed(event));
-    app.store.on("view", (view) => this.show(app.store.session, view.state));
+    on("stop", "click", () => store.machine.stop());
+    document.addEventListener("keydown", (event) => {
+      const { key, ctrlKey, shiftKey, altKey, metaKey } = event;
+      const work = this.keys[`${ctrlKey ? "Control+" : ""}${shiftKey ? "Shift+" : ""}${key}`];
+      if (!work || altKey || metaKey || document.querySelector("dialog[open]")) return;
+      event.preventDefault();
+      work();
+    });
+    store.on("view", (_, answer) => this.show(this.isDragged && !answer));
+    for (const what of ["failed", "forget"]) store.on(what, () => this.show(false));
+    store.on("texts", ({ refusal }) => {
+      if (refusal) for (const control of CONTROLS) control.disabled = true;
+    });
   }
 
   // Where more moments come than can be shown, the last. A key ends at once what it begins, so
   // nothing is looked at before the events that come together are done.
   async preview(moment) {
-    const { store } = this.app;
     const isUnderWay = this.wanted !== undefined;
-    this.wanted = moment;
+    Object.assign(this, { isDragged: true, wanted: moment });
+    $("moment").value = moment;
     if (isUnderWay) return;
+    const { store } = this;
     await store.enqueue(async () => {
-      const { session } = store;
       await new Promise((resolve) => setTimeout(resolve));
       for (let seen; seen !== this.wanted && this.isDragged; ) {
         seen = this.wanted;
-        const { view } = await session.look(seen);
-        if (session !== store.session) break;
-        store.show(view);
+        store.show(await store.session.look(seen));
       }
     });
     this.wanted = undefined;
   }
 
-  pressed(event) {
-    if (document.querySelector("dialog[open]") || event.altKey || event.metaKey) return;
-    const key = `${event.ctrlKey ? "Control+" : ""}${event.shiftKey ? "Shift+" : ""}${event.key}`;
-    const way = WAYS.find((button) => button.getAttribute("aria-keyshortcuts") === key);
-    if (!this.others[key] && !way) return;
-    event.preventDefault();
-    if (this.others[key]) this.others[key]();
-    else if (!way.hasAttribute("aria-disabled")) way.click();
+  // What a key that is held down asks for does not pile up, and what was done meanwhile may have
+  // made it needless.
+  press(button) {
+    const { store, listing } = this;
+    if (store.left > 2) return;
+    store.enqueue(async () => {
+      if (button.disabled || button.hasAttribute("aria-disabled")) return;
+      const { session, view } = store;
+      const { location, registers } = view.state;
+      const out = Number(registers.find(({ name }) => name === "J").number);
+      const filters = $("conflicts").checked ? ["conflict"] : [];
+      const points = { cells: listing.breakCells, filters, over: location + 1, out };
+      for await (const [command, met] of commandsOf(button.id, session, points)) await store.act([command], view, met);
+    });
   }
 
-  show({ done, ahead, total, isHalted }, state) {
-    if (!this.isDragged) {
-      $("slider").max = total;
-      for (const id of ["slider", "moment"]) $(id).value = done;
-    }
+  // A control that has the focus keeps it: it is only marked.
+  show(isDragged) {
+    const { session, view } = this.store;
+    this.isDragged = isDragged;
+    if (!session || !view) return;
+    const { done, ahead, total, isHalted } = session;
+    const { state } = view;
+    $("slider").max = total;
+    for (const id of isDragged ? [] : ["slider", "moment"]) $(id).value = done;
     $("moment").size = Math.max(4, String(total).length);
     put($("total"), String(total));
     const where = `location ${state.location}, clock ${state.clock}`;
     $("slider").setAttribute("aria-valuetext", `change ${state.done} of ${total}, ${where}`);
-    for (const id of ["back", "to-break", "to-start"]) this.enable(id, done > 0);
-    this.enable("to-end", ahead > 0);
-    for (const id of ["step", "over", "out", "run"]) this.enable(id, !isHalted);
-    $("beyond").hidden = !isHalted;
-    for (const id of ["slider", "moment"]) $(id).disabled = total === 0;
-  }
-
-  // A button that has the focus keeps it: it is only marked.
-  enable(id, is) {
-    const button = $(id);
-    if (document.activeElement === button && !is) button.setAttribute("aria-disabled", "true");
-    else button.disabled = !is;
-    if (is) button.removeAttribute("aria-disabled");
-  }
-
-  hide() {
-    for (const control of [...WAYS, $("slider"), $("moment")]) control.disabled = true;
-    $("beyond").hidden = true;
+    const has = { done, ahead, total, way: !isHalted, halt: isHalted };
+    for (const control of CONTROLS) {
+      const is = Boolean(has[control.dataset.needs]);
+      const isKept = !is && control === document.activeElement;
+      control.disabled = !is && !isKept;
+      control.ariaDisabled = isKept ? "true" : null;
+    }
   }
 }
 
 // The commands of a button, one by one, each perhaps with a change that conflicts at its end.
 // The engine says where one of the breakpoints at `cells` is met, or one of `filters`, and what is
 // kept are the steps. `over` is the cell behind the next instruction, `out` the one in rJ.
-export async function* commandsOf(name, session, points) {
+async function* commandsOf(name, session, points) {
   const { done, ahead } = session;
-  if (name === "step" || name === "beyond") yield [ahead > 0 ? "forth 1" : "step 1"];
-  if (name === "over" || name === "out") yield* runOf(session, { ...points, cells: [...points.cells, points[name]] });
-  if (name === "to-end" && ahead > 0) yield ["forth all"];
-  if (name === "back" && done > 0) yield ["back 1"];
-  if (name === "to-start" && done > 0) yield ["back all"];
-  if (name === "to-break" && done > 0) {
+  const forth = ahead > 0 ? "forth 1" : "step 1";
+  const plain = { step: forth, beyond: forth, back: "back 1", "to-start": "back all", "to-end": "forth all" }[name];
+  if (plain) yield [plain];
+  else if (name !== "to-break") yield* runOf(session, { ...points, cells: points.cells.concat(points[name] ?? []) });
+  else {
     const end = await session.stop("reverseContinue", points);
     yield [end.reason === "entry" ? "back all" : `back ${done - end.done}`, end.met];
   }
-  if (name === "run") yield* runOf(session, points);
 }
 
 // Does again what was taken back, then goes on, by one step more where it stops at a fault, which

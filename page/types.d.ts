@@ -16,7 +16,7 @@ interface State {
   registers: Register[]; cells: Cell[]; altered: string[];
 }
 interface Item { part: string; what?: string; before: string; after: string; beforeValue?: string; afterValue?: string; block?: number }
-interface Change { number: number; location: number; text: string; time: string; items: Item[] }
+interface Change { number: number; location: number; text: string; time: string; items: Item[]; instruction?: Instruction }
 interface Next extends Partial<Change> { exceptionId?: string; description?: string } // no items where it would be a fault
 interface Unit {
   unit: number; kind: string; place: number; blocks: number; delay: string; until: string;
@@ -24,7 +24,7 @@ interface Unit {
 }
 interface Write { number: number; before: any; after: any }
 interface Program { rows: { cell: number; instruction: boolean; line?: number }[]; symbols: { name: string; value: string; number: string }[]; start: number }
-interface Found { line: number; column?: number; endColumn?: number; severity: string; code: string; text: string }
+interface Found { line: number; column?: number; endColumn?: number; severity: string; code: string; text: string; isFault?: boolean; remedy?: string }
 interface Answer { success: boolean; body: any; message?: string; stopped?: { reason: string; text: string } }
 type Asked = [command: string, given: object]; // a request
 
@@ -52,7 +52,8 @@ interface Shown { answer: Answer | null; before: View | null; view: View; listin
 
 // What a bundle holds, to be opened.
 interface Opened { source: string; deck: string; done: string[]; left: string[]; breaks: number[]; bars: string; shown: string[]; lesson: string }
-interface Lesson { group: string; name: string; title: string; bundle: string; notes: string; answer: string; solution?: string }
+interface Parts { source: string; deck: string; script: string }
+interface Lesson { group: string; name: string; title: string; bundle: Parts; notes: string; answer: string; solution?: Parts }
 
 declare const Engine: typeof import("./engine.js").Engine; // in the worker's program, which follows the engine's
 

@@ -49,7 +49,7 @@ export class Units {
     const thing = kind === "card reader" ? "cards" : "lines";
     const read = `${place} of ${blocks} ${thing} read`;
     if (unread.length === 0) return [make("p", {}, read)];
-    const cards = unread.slice(0, CARDS_SHOWN).map((row) => make("div", { class: "card mono" }, row.trimEnd() || " "));
+    const cards = unread.slice(0, CARDS_SHOWN).map((row) => make("div", { class: "card mono" }, row || " "));
     cards[0].classList.add("next");
     if (unread.length > CARDS_SHOWN) cards.push(make("p", {}, `… and ${unread.length - CARDS_SHOWN} more`));
     const region = regionOf("div", `Unit ${unit}: ${thing} still to be read`, { class: "cards" }, ...cards);
@@ -126,7 +126,6 @@ export class Papers {
 }
 
 function withPages(rows, pages) {
-  const marksAt = (at) => pages.filter((page) => page === at).map(() => null);
-  const last = pages.filter((page) => page >= rows.length).map(() => null);
-  return [...rows.flatMap((row, index) => [...marksAt(index), row.trimEnd()]), ...last];
+  const pagesAt = (at) => pages.filter((page) => page === at).map(() => null);
+  return [...rows.flatMap((row, at) => [...pagesAt(at), row]), ...pagesAt(rows.length)];
 }

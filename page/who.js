@@ -2,7 +2,7 @@
 
 import { $, counted, fourDigits, make, on, put } from "./dom.js";
 import { refusalOf } from "./machine.js";
-import { flagsOf } from "./memory.js";
+import { heldIn } from "./memory.js";
 import { CHARACTERS } from "./operations.js";
 import { COMPARED, isCommand, nameOf } from "./sentence.js";
 import { valuesOf } from "./svg.js";
@@ -13,8 +13,8 @@ function valueOf(typed) {
   const letters = (/^["“]([^"”]{1,5})["”]$/.exec(text.toUpperCase()) || [])[1];
   const isWord = /^[+-]( \d{1,2}){2,5}$/.test(text);
   if (!letters && !isWord) return text;
-  const codes = (word) => [...word.padEnd(5)].map((letter) => CHARACTERS.indexOf(letter));
-  const bytes = isWord ? text.split(" ").slice(1).map(Number) : codes(letters);
+  const codeOf = (letter) => CHARACTERS.indexOf(letter);
+  const bytes = isWord ? text.split(" ").slice(1).map(Number) : [...letters.padEnd(5)].map(codeOf);
   if (bytes.includes(-1)) return text;
   const first = 6 - bytes.length; // in the word
   const parts = bytes.map((byte, at) => (byte > 0 ? `${byte}(${first + at}:${first + at})` : "")).filter(Boolean);
@@ -24,12 +24,9 @@ function valueOf(typed) {
 const FLAGS = { true: "on", false: "off", ...COMPARED };
 const worthOf = (value) => value.number ?? FLAGS[value] ?? String(value);
 
-function heldBy(part, { state, wordIn }) {
-  const flag = flagsOf(state).find((each) => each.part === part);
-  if (flag) return flag.text;
-  const register = state.registers.find(({ name }) => name === part);
-  const { word, number, characters } = register || wordIn(Number(part.slice(5)));
-  return `${word} = ${number} = “${characters}”`;
+function heldBy(part, view) {
+  const { word, said } = heldIn(view, [Number(part.slice(5))]).find((each) => each.part === part);
+  return said ?? `${word.word} = ${word.number} = “${word.characters}”`;
 }
 
 const ALLOWED = {
@@ -39,33 +36,36 @@ const ALLOWED = {
 };
 
 export class Who {
-  constructor(/** @type {App} */ app) {
-    this.app = app;
-    this.part = ""; // what comes after `until` in a command
-    this.last = null; // the last change that wrote it
-    this.next = 0; // the next one
+  part = ""; // what comes after `until` in a command
+  last = /** @type {Change} */ (null); // the last change that wrote it
+  next = 0; // the next one
+
+  constructor(/** @type {Store} */ store, /** @type {Listing} */ listing) {
+    this.store = store;
+    this.listing = listing;
     on("who-back", "click", () => this.leave(this.last.number));
     on("who-before", "click", () => this.leave(this.last.number - 1));
     on("who-forth", "click", () => this.leave(this.next));
     on("who-value", "input", () => this.refuse(""));
     on("who-form", "submit", (event) => {
       event.preventDefault();
-      if ($("who-value").value.trim() !== "") app.store.enqueue(() => this.set(valueOf($("who-value").value)));
+      if ($("who-value").value.trim() !== "") store.enqueue(() => this.set(valueOf($("who-value").value)));
     });
   }
 
   leave(moment) {
     $("who").close();
-    this.app.go(`goto ${moment}`);
+    this.store.go(`goto ${moment}`);
   }
 
   async open(part) {
-    const { session, view } = this.app.store;
+    const { session, view } = this.store;
     const { done, ahead } = session;
-    const { writes, isCut, last, next } = await session.writesOf(part);
+    const found = await session.writesOf(part);
+    const { writes, last, next } = found;
     const name = nameOf(part);
     Object.assign(this, { part, last, next });
-    this.showWrites(name, writes, isCut, session);
+    this.showWrites(name, found, session);
     put($("who-title"), `Who wrote ${name}?`);
     put($("who-word"), heldBy(part, view));
     put($("who-text"), this.told(last, writes.findLast(({ number }) => number <= done)));
@@ -82,7 +82,7 @@ export class Who {
     $(!last ? "who-value" : last.number === done ? "who-before" : "who-back").focus();
   }
 
-  showWrites(name, writes, isCut, { done, total }) {
+  showWrites(name, { writes, isCut, many }, { done, total }) {
     const here = writes.filter(({ number }) => number <= done).length - 1;
     const items = writes.map(({ number, before, after }, at) => {
       const given = { type: "button", "aria-current": at === here && "step", click: () => this.leave(number) };
@@ -92,11 +92,13 @@ export class Who {
     $("who-writes").replaceChildren(...items);
     const before = `${isCut[0] ? "the last " : ""}${counted(here + 1, "change")} up to here`;
     const after = `${isCut[1] ? "the next " : ""}${counted(writes.length - 1 - here, "change")} after it`;
-    const more = isCut.includes(true) && `There are more: these are ${before}, and ${after}.`;
-    put($("who-many"), isList ? more || `All ${counted(writes.length, "change")} that wrote it.` : "");
+    const told = isCut.includes(true)
+      ? `Of ${counted(many, "change")} that wrote it: these are ${before}, and ${after}.`
+      : `All ${counted(writes.length, "change")} that wrote it.`;
+    put($("who-many"), isList ? told : "");
     const isDrawn = isList && writes[0].before.number !== undefined;
-    const told = { title: `${name} over ${counted(total, "change")}`, text: "The list below has each value." };
-    $("who-values").replaceChildren(...(isDrawn ? [valuesOf({ ...told, writes, isCut, total, done })] : []));
+    const named = { title: `${name} over ${counted(total, "change")}`, text: "The list below has each value." };
+    $("who-values").replaceChildren(...(isDrawn ? [valuesOf({ ...named, writes, isCut, total, done })] : []));
   }
 
   told(change, write) {
@@ -104,20 +106,20 @@ export class Who {
     const { number, location, text } = change;
     const became = `; from ${worthOf(write.before)} to ${worthOf(write.after)}.`;
     if (isCommand(change)) return `Change ${number}, a command: ${text}${became}`;
-    const line = this.app.listing.lineOf.get(location);
+    const line = this.listing.lineOf.get(location);
     return `Change ${number}: ${text} at location ${fourDigits(location)}${line ? `, line ${line}` : ""}${became}`;
   }
 
   async set(value) {
-    const { app, part } = this;
-    const found = await app.store.session.act([`set ${part} ${value}`], { isTried: true });
+    const { store, part } = this;
+    const found = await store.session.act([`set ${part} ${value}`], { isTried: true });
     const refusal = refusalOf(found.answer);
     if (refusal) {
       this.refuse(`Refused: ${refusal}. ${ALLOWED[part] || ALLOWED[/^(I\d|J)$/.test(part) ? "small" : "word"]}`);
       return;
     }
     $("who").close();
-    app.did(found);
+    store.did(found);
   }
 
   refuse(text) {

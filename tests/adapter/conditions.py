@@ -95,7 +95,8 @@ RUNS = [
     # data breakpoints and a halt end a run also beside one that does not stop: the step to cell 13
     # alters cell 103, and HLT leads to 17
     ([lines((7, "0")), ("setDataBreakpoints", {"breakpoints": [{"dataId": "cell 103"}]})], ons(("data breakpoint", 3), END)), ([lines((11, "0"))], ons(END)),
-    # and these arrivals are counted too: the first of cell 13, and the second of cell 17 after that by JMP SUB, so the next one there is the third
+    # and these arrivals are counted too: the first of cell 13, and the second of cell 17 after
+    # that by JMP SUB, so the next one there is the third
     ([lines((7, None, "2")), ("setDataBreakpoints", {"breakpoints": [{"dataId": "cell 103"}]})], ons(("data breakpoint", 3), ("breakpoint", 6), ("breakpoint", 9), END)),
     ([lines((11, None, "3"))], [(ON, *END), (BACK, "breakpoint", 12)]), ([lines((11, None, "4"))], [(ON, *END), (BACK, "entry", 0)]),
 ]

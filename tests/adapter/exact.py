@@ -63,7 +63,8 @@ TWICE = " NOP\n NOP\n ORIG 0\n NOP\n END 0\n"
 STAYS = '"body":{"breakpoints":[{"line":2},{"line":4}]}'
 MOVED = '"body":{"breakpoints":[{"instructionReference":"0x0000","line":4,"verified":true},{"instructionReference":"0x0006","line":2,"verified":true}]}'
 
-# A line that is altered while it is printed, until 0 + 1 + 10: by changes 2 and 3, not by change 11.
+# A line that is altered while it is printed, until 0 + 1 + 10: by changes 2 and 3, not by change
+# 11.
 LINE = ' OUT 9(18)\n STZ 9\n STZ 10\n JBUS *(18)\n STZ 9\n HLT\n ORIG 9\n ALF "HULLO"\n END 0\n'
 DELAY = "%UNIT 18 delay 10\n"
 FILTER = '"exceptionBreakpointFilters":[{"default":false,"description":"A run stops at a step that uses a cell which a transfer under way forbids.",' \
@@ -81,6 +82,12 @@ SENT = ['{"command":"next","request_seq":7,"seq":%d,"success":true,"type":"respo
         '{"body":{"error":{"format":"Q1 no such request","id":301,"showUser":true}},"command":"fly","message":"Q1 no such request","request_seq":8,'
         '"seq":%d,"success":false,"type":"response"}',
         '{"body":{"category":"stdout","output":"HI\\n"},"event":"output","seq":%d,"type":"event"}']
+
+# Programs that are not debugged, and what is told of each after its beginning: it ends by a HLT,
+# by a fault, or not at all. Whatever is asked to stop it is not verified.
+UNDEBUGGED = [(HI, ["output stdout HI\n", "terminated"]), (" CON 197\n END 0\n", ["output stderr M1 no such operation\n", "terminated"]), ("X JMP X\n END X\n", ["stopped pause"])]
+UNVERIFIED = [("setBreakpoints", {"breakpoints": [{"line": 1}]}), ("setInstructionBreakpoints", {"breakpoints": [{"instructionReference": "0"}]}),
+              ("setDataBreakpoints", {"breakpoints": [{"dataId": "cell 3"}]}), ("setExceptionBreakpoints", {"filters": ["conflict"]})]
 
 # What lines of the console are tried on, with a symbol that has a register's name.
 TYPED = " ENTA 5\nX STA 100\n HLT\n END 0\n"
@@ -205,6 +212,25 @@ def views(command, count):
         count.row(f"{name} {given}", any(part in message for message in found.get(seq, [])), found.get(seq))
 
 
+def launches(command, count):
+    """What a launch gives to the units, and what refuses it."""
+    for name, given, part in rows_of("launches"):
+        found, _ = texts(command, told((name, {"stopOnEntry": True, **given}), ("mix/units", {}), ("mix/state", {})))
+        count.row(f"{name} {given}", any(part in message for message in found), found)
+
+
+def undebugged(command, count):
+    """A program that is not debugged runs to its end."""
+    for source, wanted in UNDEBUGGED:
+        found = answers(command, [launch(source, noDebug=True), *UNVERIFIED, DONE])
+        for seq, (name, _) in enumerate(UNVERIFIED, 2):
+            body = json.loads(found[seq][0])["body"]
+            count.same(f"{source!r}: {name} sets none", body, {"breakpoints": [{"message": "not debugged", "verified": False}]})
+        events = [json.loads(text) for text in found[len(UNVERIFIED) + 2][1:]]
+        told_of = [" ".join([it["event"], *(it.get("body", {}).get(name, "") for name in ("category", "output", "reason") if name in it.get("body", {}))]) for it in events]
+        count.same(f"{source!r} is not debugged", told_of, wanted)
+
+
 def locations(command, count):
     asked = ("breakpointLocations", {"line": 1, "endLine": 5})
     found, _ = texts(command, told(asked, launch(TWICE), asked, ("setBreakpoints", {"breakpoints": [{"line": 1}, {"line": 2}]})))
@@ -293,15 +319,16 @@ def reports(command, count):
 
 
 def checks(command, count):
-    """What there is to say of a text is what `mixrev check --json` says of it, whether a program is launched or not."""
+    """What there is to say of a text is what `mixrev check --json` says of it, whether a program is launched or not; and beside that remedies."""
     for source in CHECKED:
         lines = subprocess.run([command[0], "check", "--json", "-"], input=source.encode(), capture_output=True).stdout.splitlines()
         wanted = [{name: value for name, value in json.loads(line).items() if name != "file"} for line in lines]
         for opening in ([], [launch(SOURCE), DONE]):
             found, ended = texts(command, told(*opening, ("mix/check", {"source": source})))
-            bodies = [message["body"] for message in map(json.loads, found) if message.get("command") == "mix/check"]
-            count.same(f"{source!r} is checked, {'launched' if opening else 'not launched'}", (bodies, ended), ([{"diagnostics": wanted}], GOOD))
+            told_of = [message["body"]["diagnostics"] for message in map(json.loads, found) if message.get("command") == "mix/check"]
+            same = [[{name: value for name, value in it.items() if name != "remedy"} for it in all_of if it["code"] != "no-halt"] for all_of in told_of]
+            count.same(f"{source!r} is checked, {'launched' if opening else 'not launched'}", (same, ended), ([wanted], GOOD))
 
 
 if __name__ == "__main__":
-    sys.exit(run(ends, frames, messages, leads, steps, ahead, views, locations, wrong, conflicts, console, hovers, reports, checks))
+    sys.exit(run(ends, frames, messages, leads, steps, ahead, views, launches, undebugged, locations, wrong, conflicts, console, hovers, reports, checks))

@@ -6,8 +6,8 @@ from _pydevd_bundle._debug_adapter import pydevd_base_schema as base
 from _pydevd_bundle._debug_adapter import pydevd_schema  # the classes put themselves into the tables of the base
 
 TYPES = {"string": str, "boolean": bool, "integer": int, "number": (int, float), "array": list, "object": dict, "null": type(None)}
-# Members of the protocol that are newer than these classes, and the one that it does not have.
-NEWER = {("DisassembledInstruction", "presentationHint"), ("EvaluateResponse.body", "line")}
+# Members of the protocol that are newer than these classes, and those that it does not have.
+NEWER = {("DisassembledInstruction", "presentationHint"), *(("EvaluateResponse.body", name) for name in ("line", "number", "fault"))}
 
 
 def faults(message):

@@ -1,4 +1,5 @@
-// page/engine.js over a module that gives back what comes in, or goes wrong when it is asked to. The line counts the calls.
+// page/engine.js over a module that gives back what comes in, or goes wrong when it is asked to.
+// The line counts the calls.
 
 import assert from "node:assert/strict";
 import { readFileSync } from "node:fs";
@@ -14,7 +15,8 @@ function asked(engine, text) {
   return new TextDecoder().decode(engine.ask(new TextEncoder().encode(text)));
 }
 
-// What is said of a call that fails, after which the instance is thrown away; a session that is opened then is as it should be.
+// What is said of a call that fails, after which the instance is thrown away; a session that is
+// opened then is as it should be.
 function fault(engine, text) {
   let said = "";
   try {
@@ -40,7 +42,8 @@ for (let round = 0; round < 3; round += 1) {
 // A session that is broken off, for memory or for what is no frame.
 assert.equal(fault(engine, "1"), NO_MEMORY);
 assert.ok(fault(engine, "2").startsWith(MIDDLE));
-// An answer that is larger than the first room, and one for which there is none; what is asked then is answered alone.
+// An answer that is larger than the first room, and one for which there is none; what is asked
+// then is answered alone.
 const long = "3" + "x".repeat(300000);
 assert.equal(asked(engine, long), long.repeat(3));
 assert.equal(asked(engine, "hello"), "hello");

@@ -43,6 +43,10 @@ def heat(page, native, count):
     count.same("heat: of the cells, by other changes", [row[1] for row in page.script(CELLS)], ["altered by 1 change", "altered by 2 changes", ""])
     page.click("heat")
     count.same("heat: gone", (page.script(TINTS), [row[1] for row in page.script(CELLS)]), ([None, None], ["", "", ""]))
+    page.put("text", SOURCE.replace("ENT1 3", "ENT1 2000"))
+    page.click("run")
+    page.click("heat")
+    count.same("heat: of cells that were altered often", [row[1] for row in page.script(CELLS)], ["altered by 2,000 changes", "altered by 1 change", ""])
 
 
 HEAT = (heat,)

@@ -1,5 +1,6 @@
-// The C in a module for WebAssembly, lowered as the engine is: products and shifts against whole numbers of any size, and the heap against a model, up to the
-// most memory that the module may have. The word is a seed; the line counts the calls.
+// The C in a module for WebAssembly, lowered as the engine is: products and shifts against whole
+// numbers of any size, and the heap against a model, up to the most memory that the module may
+// have. The word is a seed; the line counts the calls.
 
 import assert from "node:assert/strict";
 import { readFileSync } from "node:fs";

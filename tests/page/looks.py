@@ -77,13 +77,10 @@ def keys(page, native, count):
         count.row(f"keys: the tab key comes to {wanted}", any(name.startswith(wanted) for name in seen), seen)
     count.row("keys: the registers are one stop", "rX: who wrote it?" not in seen and len(seen) < 42, (len(seen), seen))
     page.script("document.activeElement.blur()")
-    page.press(Keys.F8)
-    page.press(Keys.F8)
-    page.press(Keys.F7)
-    page.chord(Keys.SHIFT, Keys.F8)
-    page.chord(Keys.SHIFT, Keys.F7)
-    page.chord(Keys.CONTROL, Keys.F8)
-    page.chord(Keys.CONTROL, Keys.F7)
+    for key in (Keys.F8, Keys.F8, Keys.F7):
+        page.press(key)
+    for held, key in ((Keys.SHIFT, Keys.F8), (Keys.SHIFT, Keys.F7), (Keys.CONTROL, Keys.F8), (Keys.CONTROL, Keys.F7)):
+        page.chord(held, key)
     done = [command for command, _ in page.log()]
     count.same("keys: steps", done, ["step 1", "step 1", "back 1", "forth all", "run 1000000", "back all", "forth all", "back all"])
     natively("keys: steps", page, native, count)
@@ -125,7 +122,8 @@ def names(page, native, count):
         count.row(f"names: {name or 'the page'}, {found} controls", found > (5 if name is None else 0) and not [role for role in without if role not in ("table", "group")], without)
         page.script("document.querySelectorAll('dialog[open]').forEach(d => d.close())")
     count.same("names: what happens is told", page.one("status").get_attribute("role"), "status")
-    count.row("names: the slider tells the moment", page.one("slider").get_attribute("aria-valuetext").startswith("change 85 of 85, location "), page.one("slider").get_attribute("aria-valuetext"))
+    moment = page.one("slider").get_attribute("aria-valuetext")
+    count.row("names: the slider tells the moment", moment.startswith("change 85 of 85, location "), moment)
 
 
 def alone(page, native, count):
@@ -159,29 +157,41 @@ def shown(page, count):
     count.row("shown: the line at the location is marked", f"location\n{marked}" in state[1] or f"location {marked}" in state[1].replace("\n", " "), state[1])
 
 
+SIZES = ((1280, 800), (1920, 1080), (390, 844))
+FAULTY = "X    EQU  1\n     JUMP 0\nX    EQU  2\nENTA 10\n     LDA  Y\n     HALT\n     INCA 0, 1\n     END  0\n"
+MOST_BYTES = 250_000  # of docs/page.png
+
+
+def made(page, count):
+    """A lesson at one of its steps, one that prints, a sort, and a faulty source."""
+    for name, lesson, buttons in (("first", 0, ["step"] * 3), ("primes", 4, ["run"])):
+        page.lesson(lesson)
+        for button in buttons:
+            page.click(button)
+        yield name
+    shown(page, count)
+    yield "sort"
+    page.put("text", FAULTY)
+    yield "faulty"
+
+
 def pictures(open_page, count):
-    """The pictures, to be looked at: wide and narrow, light and dark, and as printed."""
+    """The pictures, to be looked at, in three windows, light and dark, and as printed."""
     OUT.mkdir(exist_ok=True)
-    for width, height in ((1280, 1000), (320, 700)):
-        for dark in (False, True):
-            with open_page(width=width, height=height, dark=dark) as page:
-                shade = "dark" if dark else "light"
-                page.lesson(4)
-                page.click("run")
-                page.say("back until cell 2009")
-                page.shot(OUT / f"primes-{width}-{shade}.png")
-                page.lesson(8)
-                page.tab("talk")
-                page.click("script-next")
-                page.click("script-next")
-                page.tab("program")
-                page.shot(OUT / f"bill-{width}-{shade}.png", whole=True)
-                ink, ground = page.script("const s = getComputedStyle(document.documentElement); return [s.color, s.backgroundColor]")
-                light = [sum(int(part) for part in colour.split("(")[1].split(")")[0].split(",")[:3]) for colour in (ink, ground)]
-                count.row(f"pictures: {width} {shade}", (light[0] > light[1]) == dark, (ink, ground))
-    with open_page(width=1280, height=800) as page:
-        shown(page, count)
-        page.shot(OUT / "page.png")  # that of docs/PAGE.md
+    for dark in (False, True):
+        with open_page(width=1280, height=800, dark=dark) as page:
+            shade = "dark" if dark else "light"
+            for name in made(page, count):
+                for width, height in SIZES:
+                    page.size(width, height)
+                    page.tab("program")
+                    page.script("return new Promise((done) => requestAnimationFrame(() => requestAnimationFrame(done)))")
+                    page.shot(OUT / f"{name}-{width}-{shade}.png")
+                page.size(*SIZES[0])
+            ink, ground = page.script("const s = getComputedStyle(document.documentElement); return [s.color, s.backgroundColor]")
+            light = [sum(int(part) for part in colour.split("(")[1].split(")")[0].split(",")[:3]) for colour in (ink, ground)]
+            count.row(f"pictures: {shade}", (light[0] > light[1]) == dark, (ink, ground))
+    count.row("pictures: that of docs/PAGE.md is small", (OUT / "sort-1280-light.png").stat().st_size <= MOST_BYTES)
     with open_page(width=720) as page:
         page.command("Emulation.setEmulatedMedia", media="print")
         page.script("window.dispatchEvent(new Event('beforeprint'))")

@@ -1,6 +1,6 @@
-// What the engine takes on this machine, in time and in memory: `node tests/page/measure.mjs [MODULE]`. Each session
-// launches a program and does a million steps, and then goes to moments among them, as the slider does. Times are those
-// of the processor.
+// What the engine takes on this machine, in time and in memory: `node tests/page/measure.mjs
+// [MODULE]`. Each session launches a program and does a million steps, and then goes to moments
+// among them, as the slider does. Times are those of the processor.
 
 import { readFileSync } from "node:fs";
 import { Engine } from "../../page/engine.js";

@@ -1,6 +1,6 @@
 // The modules of the page that need no page: node tests/page/pure.mjs [SEED]. The last line counts.
 import { readFileSync } from "node:fs";
-import { bundleOf, cardsApart, openedOf, scriptOf, withCards } from "../../page/bundle.js";
+import { bundleOf, cardsApart, openedOf, partsOf, scriptOf, withCards } from "../../page/bundle.js";
 import { grammarOf } from "../../page/colours.js";
 import { CARD, CHARACTERS, OPERATIONS, PSEUDO, explained, filled, takeTables } from "../../page/operations.js";
 import { upTo } from "../../page/range.js";
@@ -28,7 +28,8 @@ function drawn(below) {
 }
 const some = (most, make) => Array.from({ length: drawn(most + 1) }, make);
 
-// What the tables say of operations, of each with its register. They are compared with the program by tests/tables.
+// What the tables say of operations, of each with its register. They are compared with the
+// program by tests/tables.
 takeTables(read("docs/operations.tsv"), read("docs/characters.tsv"));
 const known = [...OPERATIONS.values()].filter(({ name }) => ["ST6", "SRC", "J5NP"].includes(name)).map(({ name, code, f, register }) => [name, code, f, register]);
 row("operations: a register, and an F that names it", [OPERATIONS.size, PSEUDO.size, CHARACTERS.length, known], [144, 5, 56, [["SRC", 6, 5, ""], ["ST6", 30, null, "rI6"], ["J5NP", 45, 5, "rI5"]]]);
@@ -54,7 +55,8 @@ for (const group of read("editors/samples.txt").split("\n\n")) {
   }
 }
 
-// How often cells were executed is what the changes say, at moments in any order, also when later changes are others.
+// How often cells were executed is what the changes say, at moments in any order, also when later
+// changes are others.
 for (let round = 0; round < 20; round += 1) {
   const path = new Path();
   const changes = [];
@@ -86,16 +88,28 @@ row("cells of a range", [upTo(3, 5), upTo(3998, 5000), upTo(5, 4)], [[3, 4, 5], 
 // What is put together comes apart again: bundles, what the page keeps in them, cards, links.
 const lineOf = () => ["step 4", " LDA X", "", "* a remark", "%UNIT 19", "äöü", "X"][drawn(7)];
 const textOf = (lines) => lines.map((line) => `${line}\n`).join("");
+// The lines of the parts, each but the first behind a marker.
+function toldOf(parts) {
+  let before = 0;
+  return Object.entries(parts).flatMap(([part, text]) => {
+    if (text === "") return [];
+    const from = before + (part === "source" ? 1 : 2);
+    before = from + text.split("\n").length - 2;
+    return [{ part, from, until: before }];
+  });
+}
 for (let round = 0; round < 200; round += 1) {
   const [source, cards] = [textOf(some(5, lineOf)), textOf(some(3, () => ["5", "", "A CARD"][drawn(3)]))];
   const done = some(4, () => ["step 4", "", "* mine"][drawn(3)]);
   const kept = { left: some(2, () => "run 5"), breaks: some(3, () => 1 + drawn(99)), bars: ["", "KEY KEY+N number"][drawn(2)], shown: ["", "map no-words"][drawn(2)], lesson: ["", "05_a/b"][drawn(2)] };
   const deck = textOf(some(4, () => ["%UNIT 19 delay 10", "B", ""][drawn(3)]));
-  const bundle = bundleOf({ source, deck, script: scriptOf({ done, ...kept }) });
-  const { shown, ...opened } = openedOf(bundle, false);
-  row("a bundle", opened, { source, deck, done, left: kept.left, breaks: kept.breaks, bars: kept.bars, lesson: kept.lesson });
+  const parts = { source, deck, script: scriptOf({ done, ...kept }) };
+  const bundle = bundleOf(parts);
+  row("a bundle by its lines", [partsOf(bundle, toldOf(parts)), partsOf(bundle.replaceAll("\n", "\r\n"), toldOf(parts))], [parts, parts]);
+  const { shown, ...opened } = openedOf(parts, false);
+  row("a bundle", opened, { source, deck, breaks: kept.breaks, bars: kept.bars, lesson: kept.lesson, done, left: kept.left });
   row("a bundle: what is shown", shown.join(" "), kept.shown);
-  row("a bundle that waits", openedOf(bundle, true).left, [...done, ...kept.left]);
+  row("a bundle that waits", openedOf(parts, true).left, [...done, ...kept.left]);
   const whole = withCards(deck, cards);
   row("cards apart from a deck", cardsApart(whole).cards, cards);
   row("cards in their deck again", withCards(cardsApart(whole).deck, cards), whole);
@@ -106,25 +120,62 @@ if (packs) row("a link that holds too much", await bundleIn(await fragmentOf("x"
 row("a source of too many letters", ["x".repeat(1048576), "x".repeat(1048577)].map(tooLarge), ["", "it has 1,048,577 letters, and a source has at most 1,048,576 bytes"]);
 
 // A person's words are kept, and done again, as the line that the engine tells; what asks is shown.
-const LINES = { "goto 0": "goto 0", "b 5": "break 5", "show regs": "show regs", "p A": undefined };
-for (const tells of [true, false]) {
-  const asked = [];
-  const answerTo = ([, { expression }]) => {
-    if (expression) asked.push(expression);
-    const line = tells && LINES[expression] && { line: LINES[expression] };
-    const body = { done: 0, ahead: 0, halted: false, cells: [], altered: [], units: [], result: "said\n", ...line };
-    return { success: expression !== "zz", message: "C1 no such command", body };
-  };
-  const machine = { holder: null, ask: async (holder, requests) => Object.assign(machine, { holder }) && requests.map(answerTo) };
-  const session = new Session(machine, {}, () => ({ blocks: [], field: 5 }));
-  for (const typed of [...Object.keys(LINES).slice(1), "zz"]) await session.act([typed]);
-  row("console: what is shown", session.log.map(({ command }) => command), [tells ? "break 5" : "b 5", "show regs", "p A", "zz"]);
-  row("console: what a file holds", session.lines, tells ? ["break 5", "show regs", "zz"] : ["b 5", "show regs", "p A", "zz"]);
-  machine.holder = null;
-  asked.length = 0;
-  await session.act(["show regs"]);
-  row("console: what is done again", asked, ["goto 0", ...session.lines]);
+const LINES = { "b 5": "break 5", "show regs": "show regs", "p A": undefined };
+const asked = [];
+const answerTo = ([, { expression }]) => {
+  if (expression) asked.push(expression);
+  const body = { done: 0, ahead: 0, halted: false, cells: [], altered: [], units: [], result: "said\n", line: LINES[expression], error: { id: 201 } };
+  return { success: expression !== "zz", message: "C1 no such command", body };
+};
+const machine = { holder: null, ask: async (holder, requests) => Object.assign(machine, { holder }) && requests.map(answerTo) };
+const session = new Session(machine, {}, () => ({ blocks: [], field: 5 }));
+for (const typed of [...Object.keys(LINES), "zz"]) await session.act([typed]);
+row("console: what is shown", session.log.map(({ command }) => command), ["break 5", "show regs", "p A", "zz"]);
+row("console: what a file holds", session.lines, ["break 5", "show regs", "zz"]);
+row("console: a refusal, as in a script", session.log[3].reply, "? C1 no such command\n");
+machine.holder = null;
+asked.length = 0;
+await session.act(["show regs"]);
+row("console: what is done again", asked, session.lines);
+
+// Each request has the arguments that the adapter takes, by the table in docs/DAP.md, and beside
+// them what it does not read.
+const FORMS = { text: (it) => typeof it === "string", number: (it) => Number.isSafeInteger(it) && it >= 0, list: Array.isArray, true: (it) => typeof it === "boolean" };
+const UNREAD = ["adapterID", "clientID", "threadId"];
+const documented = read("docs/DAP.md");
+const namesIn = (text) => [...text.matchAll(/`(\w+)`/g)].map(([, name]) => name);
+const takes = new Map(documented.split("\n").filter((line) => /^\| `[\w/]+` \|/.test(line)).map((line) => {
+  const [, name, needs, may] = line.split("|");
+  const listed = [needs, may].flatMap((cell) => cell.split("; ").map((part) => [part.split(":")[0], part.split(":").slice(1).join()]));
+  const forms = listed.flatMap(([names, form]) => namesIn(names).map((each) => [each, [/text|number|list|true/.exec(form)?.[0], Number((/at most ([\d,]+)/.exec(form) || [0, "Infinity"])[1].replace(",", ""))]]));
+  return [name.trim().slice(1, -1), { needs: needs.split("; ").flatMap((part) => namesIn(part.split(":")[0])), forms: new Map(forms) }];
+}));
+function wrongIn([name, given]) {
+  const { needs, forms } = takes.get(name) || { needs: [], forms: new Map() };
+  const wrong = Object.entries(given).filter(([key, value]) => value !== undefined && !UNREAD.includes(key) && !(forms.has(key) && FORMS[forms.get(key)[0]](value) && !(value > forms.get(key)[1])));
+  return [...(documented.includes(`\`${name}\``) ? [] : [name]), ...needs.filter((key) => given[key] === undefined), ...wrong.map(([key]) => key)];
 }
+const sent = [];
+const many = Array.from({ length: 1000 }, (_, at) => ({ number: 2000 - at, before: {}, after: {} }));
+for (const ahead of [0, 4000]) {
+  const body = { done: 2000, ahead, cells: [], altered: [], units: [{ unit: 18, rows: ["A"], pages: [] }, { unit: 19, rows: ["A"], pages: [], unread: [] }], columns: [], writes: many, diagnostics: [], parts: [], result: "", line: "run 5", total: 2000 };
+  const client = { holder: null, ask: async (holder, requests) => {
+    sent.push(...requests);
+    return Object.assign(client, { holder }) && requests.map(() => ({ success: true, body: { ...body, writes: [...many] }, stopped: { reason: "exception" } }));
+  } };
+  const asks = new Session(client, { source: " END 0\n", deck: "", cards: "A" }, () => ({ blocks: [["mix/units", { unit: 8, block: 0 }]], field: 13 }));
+  await asks.begin();
+  await asks.act(["run 5"], { met: 3 });
+  await asks.slide(7);
+  for (const way of ["continue", "reverseContinue"]) await asks.stop(way, { cells: [5], filters: ["conflict"] });
+  await asks.values(["TABLE+1"]);
+  await asks.cellsAt([1, 2], [10, 11], 5);
+  await asks.mapWith("A");
+  await asks.altersOf([100]);
+  await asks.writesOf("cell 100");
+}
+for (const name of new Set(sent.map(([each]) => each))) row(`requests: ${name} has the arguments that it takes`, sent.filter(([each]) => each === name).map(wrongIn).filter(({ length }) => length > 0), []);
+row("requests: those that look", [...new Set(sent.map(([name]) => name).filter((name) => name.startsWith("mix/")))].sort(), ["change", "check", "next", "path", "program", "state", "units", "writes"].map((name) => `mix/${name}`));
 
 // The pictures, with elements that hold what they are given.
 const element = (name) => ({ name, given: {}, inside: [], setAttribute(key, value) { this.given[key] = value; }, append(...more) { this.inside.push(...more); } });

@@ -161,6 +161,10 @@ def chosen_meanwhile(page, native, count):
     page.leave()
     page.idle()
     count.same("chosen: during a run", [page.value("text"), page.text("total"), page.log()], [FIRST.split("%SCRIPT")[0], "0", []])
+    page.put("text", ENDLESS)
+    page.one("run").click()
+    page.open_file(FIRST.encode())
+    count.same("chosen: a file during a run", (page.value("text"), page.replies()), (FIRST.split("%SCRIPT")[0], native.bundle(FIRST)))
 
 
 def edit_undone(page, native, count):
@@ -255,10 +259,12 @@ def refused_text(page, native, count):
     count.row("refused: a register is answered", page.told().endswith("Nothing was done."), page.told())
     page.put("text", good)
     count.row("refused: mended, nothing is old", page.script("return getComputedStyle(document.querySelector('#registers .of-old')).display") == "none")
-    causes = {"ENT1 10\n END 0\n": "if that is meant, begin the line with a blank", "; remark\n END 0\n": "a comment begins with *", "X: NOP\n END 0\n": "a label has no colon", " DEK1 1\n END 0\n": "Perhaps DEC1 is meant, not DEK1", " INCA 0, 1\n END 0\n": "no blank comes after a comma", " NOP\n": "the last line of a program is END"}
+    causes = {"ENT1 10\n END 0\n": "if that is meant, begin the line with a blank", "; remark\n END 0\n": "a comment begins with *", "X: NOP\n END 0\n": "a label has no colon", " DEK1 1\n END 0\n": "perhaps DEC1 is meant", " INCA 0, 1\n END 0\n": "a blank ends the address: none may come after a comma", " NOP\n": "the last line of a program is END"}
     for text, cause in causes.items():
         page.put("text", text)
         count.same(f"refused: {text.splitlines()[0]}: its cause is told once", page.told().lower().count(cause.lower()), 1)
+    page.put("text", "ENT1 10\n END 0\n")
+    count.row("refused: an operation as a label has no other remedy", "perhaps" not in page.told(), page.told())
     page.put("text", " J1P LOP\n HLT\n END 0\n")
     wrong = page.script("return [...document.querySelectorAll('#symbol-rows .wrong')].map((row) => [row.firstChild.textContent, row.lastChild.textContent])")
     count.same("refused: an undefined symbol, in the list of symbols", wrong, [["LOP", "not defined"]])

@@ -76,7 +76,7 @@ def fault_seen(page, native, count):
         count.row(f"fault seen: {name}: the line is in view", page.script(IN_VIEW, row, "#listing"))
         found = page.one("wrong-text")
         whole = page.script("const b = arguments[0].firstChild; return [b.scrollWidth <= b.clientWidth + 1, b.textContent]", found)
-        count.same(f"fault seen: {name}: in the list, whole", (page.script(IN_VIEW, found, "#faults"), whole), (True, [True, f"Line {line}: A2 no such operation: JUMP. Perhaps JMP is meant, not JUMP"]))
+        count.same(f"fault seen: {name}: in the list, whole", (page.script(IN_VIEW, found, "#faults"), whole), (True, [True, f"Line {line}: A2 no such operation: JUMP; perhaps JMP is meant"]))
         count.same(f"fault seen: {name}: at the source", [page.one("text").get_attribute(f"aria-{what}") for what in ("invalid", "describedby")], ["true", "wrong-text"])
         page.script("document.querySelector('#listing .CodeMirror').CodeMirror.scrollTo(0, 0); arguments[0].firstChild.focus()", found)
         page.press(Keys.ENTER)
@@ -113,14 +113,17 @@ def each_found(page, native, count):
             count.same(f"found: {name}: at the pointer", page.one("listing").get_attribute("title"), "; ".join(texts))
         more = len(bad) - 1
         count.same(f"found: {name}: how many more", page.told().partition(" more fault")[0][-1:], str(more) if more > 0 else page.told()[-1:])
+    page.put("text", FOUND["many"])
+    colours = page.script("return [2, 4].map((line) => getComputedStyle([...document.querySelectorAll('.wrong .line')].find((row) => row.firstChild.textContent == line)).color)")
+    count.same("found: a fault is red also beside a warning", colours[0], colours[1])
     for written, meant in NEAR.items():
         page.put("text", f" {written} 1\n HLT\n END 0\n")
-        count.row(f"found: {written}", f"Perhaps {meant} is meant, not {written}" in page.text("wrong-text"), page.text("wrong-text"))
+        count.row(f"found: {written}", f"no such operation: {written}; perhaps {meant} is meant" in page.text("wrong-text"), page.text("wrong-text"))
     page.put("text", "LDI1 3\n HLT\n END 0\n")
-    count.row("found: an operation at the first column, misspelt", "LDI1 is at the first column, so it is read as a label: perhaps LD1 behind a blank" in page.text("wrong-text"), page.text("wrong-text"))
+    count.row("found: an operation at the first column, misspelt", "LDI1 is read as a label: perhaps LD1 behind a blank is meant" in page.text("wrong-text"), page.text("wrong-text"))
     page.put("text", " LDA 5,\n LDX 7(1:3 a remark\n HLT\n END 0\n")
-    count.same("found: the letter before what is missing is marked", [mark.text for mark in page.all(".fault-text")], [",", "3"])
-    warnings = {" NOP\n NOP\n END 0\n": "Line 2: there is no HLT", " HLT\n END 0\n INCA 1\n": "Line 3: this stands behind END and is not read"}
+    count.same("found: the letter before what is missing is marked", page.script("return [...document.querySelectorAll('.fault-text')].map((mark) => mark.textContent)"), [",", "3"])
+    warnings = {" NOP\n NOP\n END 0\n": "Line 2: no line is a HLT: a run may go on", " HLT\n END 0\n INCA 1\n": "Line 3: this stands behind END and is not read"}
     for text, said in warnings.items():
         page.put("text", text)
         count.row(f"found: {said}", page.text("fault-rows").startswith(said) and page.one("step").is_enabled(), page.text("fault-rows"))

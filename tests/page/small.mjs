@@ -1,5 +1,6 @@
-// The engine with little memory, page/out/small.wasm: where memory is refused, the call says so, and the next call is right. Runs of more and more steps
-// are tried until memory is refused for ten of them. Before that the room of an answer, byte by byte. The line counts the calls.
+// The engine with little memory, page/out/small.wasm: where memory is refused, the call says so,
+// and the next call is right. Runs of more and more steps are tried until memory is refused for
+// ten of them. Before that the room of an answer, byte by byte. The line counts the calls.
 
 import assert from "node:assert/strict";
 import { readFileSync } from "node:fs";
@@ -21,7 +22,8 @@ function talk(requests) {
   return { status, sent: reader.decode(bytes), told: reader.decode(errors) };
 }
 
-// Talks without the glue, in a room of so many bytes, each 7 before: the status, the two lengths, and the room after it.
+// Talks without the glue, in a room of so many bytes, each 7 before: the status, the two lengths,
+// and the room after it.
 const { exports } = (await WebAssembly.instantiate(module)).instance;
 const bytesAt = (place, size) => new Uint8Array(exports.memory.buffer, Number(place), size);
 
@@ -36,7 +38,8 @@ function inRoom(text, size) {
   return { status, count, told, room: bytesAt(out, size).slice() };
 }
 
-// What a client sends, the status, and what is told on the error output, which stands behind what is sent; the rest of the room stays.
+// What a client sends, the status, and what is told on the error output, which stands behind what
+// is sent; the rest of the room stays.
 const DISCONNECT = 'Content-Length: 51\r\n\r\n{"seq":1,"type":"request","command":"disconnect"}  ';
 for (const [text, status, error] of [
   ["", 0, ""],
@@ -62,7 +65,8 @@ assert.equal(wanted.status, 0);
 assert.match(wanted.sent, /ran 5 to 0001 clock 7: limit/);
 const right = () => assert.deepEqual(talk(short), wanted);
 
-// Commands, each of at most a million steps: all done, or memory is refused, which ends the talk; more steps need no less memory.
+// Commands, each of at most a million steps: all done, or memory is refused, which ends the talk;
+// more steps need no less memory.
 const MILLION = 1000000;
 const MOST = 10 * MILLION; // steps that 32 MiB have no room for: each takes more than four bytes
 const REFUSED = 10;
@@ -83,7 +87,8 @@ for (let steps = 10000; refused < REFUSED; steps += 30000) {
   right();
 }
 
-// Runs by `continue`, each of which pauses after 1,000,000 changes, stop where memory is refused, and say so; what was done stands, and can be taken back.
+// Runs by `continue`, each of which pauses after 1,000,000 changes, stop where memory is refused,
+// and say so; what was done stands, and can be taken back.
 const goes = Array(MOST / MILLION).fill(["continue", { threadId: 1 }]);
 const { status, sent } = talk([...opening, ...goes, ["stepBack", { threadId: 1 }]]);
 assert.equal(status, 0);

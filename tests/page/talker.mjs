@@ -1,6 +1,7 @@
-// The talks of the engine as a program that answers, for the comparisons: from standard input it reads the length of some frames, of 4 bytes, and the frames, again and
-// again; for each it writes the status, of 1 byte, the lengths of what is sent and told, of 4 bytes each, and both. A fault of the engine has the
-// status 255, and its text is told. The word names the module.
+// The talks of the engine as a program that answers, for the comparisons: from standard input it
+// reads the length of some frames, of 4 bytes, and the frames, again and again; for each it
+// writes the status, of 1 byte, the lengths of what is sent and told, of 4 bytes each, and both.
+// A fault of the engine has the status 255, and its text is told. The word names the module.
 
 import { readFileSync, readSync, writeSync } from "node:fs";
 import { Talking } from "./talking.js";

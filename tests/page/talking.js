@@ -1,5 +1,5 @@
-// The module's function of bytes: all that a client sends goes in, all that it is sent comes out, and nothing is kept. The
-// page does without it.
+// The module's function of bytes: all that a client sends goes in, all that it is sent comes out,
+// and nothing is kept. The page does without it.
 
 import { Engine } from "../../page/engine.js";
 
@@ -7,8 +7,8 @@ const NO_ROOM = 3; // the status where the room for the answer was too small
 const LARGE = 1 << 28; // an instance with more memory than this is not kept for another talk
 
 export class Talking extends Engine {
-  // The status, 0 or 2; the bytes that the client is sent; the bytes that are told on the error output, which say why a
-  // status is 2.
+  // The status, 0 or 2; the bytes that the client is sent; the bytes that are told on the error
+  // output, which say why a status is 2.
   talk(frames) {
     return this.safely(() => {
       if (!this.exports || this.memory > LARGE) this.exports = new WebAssembly.Instance(this.module).exports;

@@ -87,7 +87,7 @@ def own(page, me, native, count):
     me.click(page.driver.find_element(By.CSS_SELECTOR, "#listing .CodeMirror-line"))
     page.put("text", OWN)
     me.keys += len(OWN)
-    for wrong, told, right in (("DEK1", "Perhaps DEC1 is meant, not DEK1", "DEC1"), ("SUM+LOP", "A7 undefined symbol: SUM is defined nowhere", "SUM"), ("HLT\n", "the last line of a program is END", "HLT\nSUM     CON  0\n        END  START\n")):
+    for wrong, told, right in (("DEK1", "perhaps DEC1 is meant", "DEC1"), ("SUM+LOP", "A7 undefined symbol: SUM is defined nowhere", "SUM"), ("HLT\n", "the last line of a program is END", "HLT\nSUM     CON  0\n        END  START\n")):
         count.row(f"tasks: own: {told}", told in page.told(), page.told())
         page.put("text", page.value("text").replace(wrong, right))
         me.keys += len(right)

@@ -91,6 +91,7 @@ def writes(page, native, count):
     page.idle()
     count.same("writes: a click goes there", (page.value("moment"), page.script("return document.getElementById('who').open")), ("6", False))
     page.wait(lambda: page.script(NAMES)[-1] == "I1")
+    count.same("writes: a row of the map, below that of the unit", page.script(NAMES)[-2:], ["unit 18", "I1"])
     count.same("writes: on the map", sorted(page.script(TICKS)), sorted([*PRINTED, 1, 3, 6, 9]))
 
 
@@ -127,7 +128,7 @@ def many_writes(page, native, count):
         inside = page.script("const [a, b] = [document.querySelector('#who-writes [aria-current]'), document.getElementById('who-writes')].map((e) => e.getBoundingClientRect()); return a.top >= b.top && a.bottom <= b.bottom")
         count.same(f"writes: at {moment}: the marked one is in view", inside, True)
         said = page.text("who-many")
-        count.row(f"writes: at {moment}: of how many", said.startswith(f"There are more: these are {'the last 1,000 changes' if first > 0 else f'{here + 1} changes'} up to here, and "), said)
+        count.row(f"writes: at {moment}: of how many", said.startswith(f"Of {len(every):,} changes that wrote it: these are {'the last 1,000 changes' if first > 0 else f'{here + 1} changes'} up to here, and "), said)
         shape = page.script("const path = document.querySelector('#who-values .line').getAttribute('d'); return [Number(/^M (\\d+)/.exec(path)[1]), path.endsWith('H 484')]")
         begin = 4 if first == 0 else round(4 + every[first] / total * 480)
         count.same(f"writes: at {moment}: the curve begins where it is known", (abs(shape[0] - begin) <= 1, shape[1]), (True, last == len(every)))

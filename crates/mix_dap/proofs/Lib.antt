@@ -19,4 +19,5 @@ pub mod PointLemmas
 pub mod ReferenceLemmas
 pub mod ReactionLemmas
 pub mod WholeLemmas
+pub mod WritesLemmas
 pub mod WrittenLemmas

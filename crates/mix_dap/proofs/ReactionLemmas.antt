@@ -17,7 +17,8 @@ use Rattle.dap_message.specs.declared.outbox.Outbox.{Outbox}
 use Rattle.dap_message.specs.declared.request.Request.{Request}
 use Rattle.mix_dap.specs.Deed.{deed_of, effect_of_deed, is_line, line_deed}
 use Rattle.mix_dap.specs.Console.{line_meant, said_of}
-use Rattle.mix_dap.specs.Events.{AddsAnswer, AddsEvents, invalidated, stopped}
+use Rattle.mix_dap.specs.Ended.{end_told}
+use Rattle.mix_dap.specs.Events.{AddsAnswer, AddsEvents, Event, invalidated, stopped}
 use Rattle.mix_dap.specs.Fault.{fault_number, fault_text, fault_place}
 use Rattle.mix_dap.specs.Leaves.{BreaksOff, Leaves, refusal_in}
 use Rattle.mix_dap.specs.Output.{all_told, outputs}
@@ -40,6 +41,8 @@ use Rattle.mix_dap.specs.declared.kind.Act.{Act}
 use Rattle.mix_dap.specs.declared.kind.Act.TheVariants as act
 use Rattle.mix_dap.specs.declared.kind.Kind.{Kind}
 use Rattle.mix_dap.specs.declared.kind.Kind.TheVariants as kind
+use Rattle.mix_dap.specs.declared.launch.Opening.{Opening}
+use Rattle.mix_dap.specs.declared.launch.Opening.TheVariants as opening
 use Rattle.mix_dap.proofs.EventLemmas.{answer-refused, answer-then, answer-with}
 
 -- ---- a write of the memory
@@ -125,7 +128,7 @@ acts-refused false typed what asked r a why is = asked-refused what asked r a wh
 refused-still : (k : Kind) (r : Request) (a : Adapter) (why : Fault) → (reaction k r a).body ≡ Err why → reaction k r a ≡ refuses a why
 refused-still kind.Initialize r a why is = absurd (let e = is in cc)
 refused-still (kind.Look look) r a why is = ap (λ (b : Result Data Fault). record (still a) { body = b }) is
-refused-still kind.Check r a why is = ap (λ (b : Result Data Fault). record (still a) { body = b }) is
+refused-still (kind.Given given) r a why is = ap (λ (b : Result Data Fault). record (still a) { body = b }) is
 refused-still (kind.Points target) r a why is = absurd (let e = is in cc)
 refused-still kind.Pause r a why is = absurd (let e = is in cc)
 refused-still kind.Terminate r a why is = absurd (let e = is in cc)
@@ -222,7 +225,7 @@ breaks-off (Err wrong) t new (Err refused.Memory) is = inr is
 pub runs-done : (way : Way) (a b : Adapter) (end : End) (points : PointsState) (s : SessionState) (old new : Outbox)
     → RunDone way a.points a.session.timeline end points s.timeline → b.session ≡ s → b.points ≡ points → b.fault ≡ fault_at end
     → b.printed ≡ all_told (world_of s.timeline)
-    → AddsEvents (outputs a.printed (world_of s.timeline) ++ stopped (why_of_run way points s.timeline end) ∷ []) old new → Runs way a b old new
+    → AddsEvents (outputs a.printed (world_of s.timeline) ++ end_told a.opening (Some end) (why_of_run way points s.timeline end)) old new → Runs way a b old new
 runs-done way a b end points s old new done same_session same_points faults printed tells = record {
   ended = Some end;
   ran = rw (same_session, same_points) done;
@@ -230,6 +233,12 @@ runs-done way a b end points s old new done same_session same_points faults prin
   printed = rw same_session printed;
   told = rw (same_session, same_points) tells;
 }
+
+broken-told : (opening : Opening) (rows : List Event) (old new : Outbox) → AddsEvents (rows ++ stopped out_of_memory ∷ []) old new
+    → AddsEvents (rows ++ end_told opening None out_of_memory) old new
+broken-told opening.Stops rows old new is = is
+broken-told opening.Runs rows old new is = is
+broken-told opening.Free rows old new is = is
 
 pub runs-broken : (way : Way) (a b : Adapter) (points : PointsState) (s : SessionState) (old new : Outbox)
     → RunBroken way a.points a.session.timeline points s.timeline → b.session ≡ s → b.points ≡ points → b.fault ≡ None
@@ -240,5 +249,5 @@ runs-broken way a b points s old new broken same_session same_points faults prin
   ran = rw (same_session, same_points) broken;
   fault = faults;
   printed = rw same_session printed;
-  told = rw same_session tells;
+  told = rw same_session (broken-told a.opening (outputs a.printed (world_of s.timeline)) old new tells);
 }

@@ -1,8 +1,9 @@
 -- What a request of a launched program is answered with.
-use Rattle.std.specs.Prelude.{◌≡◌, ℕ, List, [], ◌∷◌, ◌++◌, codes, string_bytes, true, None, Result, Ok, Err}
+use Rattle.std.specs.Prelude.{◌≡◌, ℕ, List, [], ◌∷◌, ◌++◌, codes, string_bytes, true, Option, None, Some, Result, Ok, Err}
 use Rattle.std.specs.Str.Lossy.{utf8_lossy}
 use Rattle.mix_check.specs.Report.{report}
-use Rattle.serde_json.specs.Data.{Data, null, boolean, string, number, unsigned, object, no_members, put}
+use Rattle.serde_json.specs.Data.{Data, Members, null, boolean, string, number, unsigned, object, no_members, put}
+use Rattle.mix_machine.specs.declared.fault.MixFault.{MixFault}
 use Rattle.mix_session.specs.Session.{SessionState}
 use Rattle.mix_session.specs.Timeline.{world_of}
 use Rattle.dap_message.specs.declared.request.Request.{Request}
@@ -12,9 +13,9 @@ use Rattle.mix_dap.specs.Counts.{counts_shown}
 use Rattle.mix_dap.specs.State.{state_asked}
 use Rattle.mix_dap.specs.Locations.{locations_asked}
 use Rattle.mix_dap.specs.Events.{Event, initialized}
-use Rattle.mix_dap.specs.Launched.{launched_of}
+use Rattle.mix_dap.specs.Launched.{launched_of, source_of}
 use Rattle.mix_dap.specs.Output.{output}
-use Rattle.mix_dap.specs.Look.{short_name, threads, stack_trace, scopes, exception_of}
+use Rattle.mix_dap.specs.Look.{short_name, threads, stack_trace, scopes, exception_of, put_fault}
 use Rattle.mix_dap.specs.Memory.{memory_asked}
 use Rattle.mix_dap.specs.Disassembly.{disassembly_asked}
 use Rattle.mix_dap.specs.Targets.{targets_asked}
@@ -62,14 +63,25 @@ continued = object (put (codes "allThreadsContinued") (boolean true) no_members)
 abbrev pub value_body : List ℕ → Data
 value_body value = object (put (codes "value") (string value) no_members)
 
--- what an expression is worth, or what is only said of a line of the console
-abbrev pub result_body : List ℕ → Data
-result_body text = object (put (codes "variablesReference") (number (unsigned 0)) (put (codes "result") (string text) no_members))
+-- a text, which has no variables
+abbrev pub put_result : List ℕ → Members → Members
+put_result text members = put (codes "variablesReference") (number (unsigned 0)) (put (codes "result") (string text) members)
 
--- what a line of the console replies, after the line of a script that was done for it
-abbrev pub line_body : List ℕ → List ℕ → Data
-line_body line text =
-    object (put (codes "variablesReference") (number (unsigned 0)) (put (codes "result") (string text) (put (codes "line") (string line) no_members)))
+-- what is only said of a line of the console
+abbrev pub result_body : List ℕ → Data
+result_body text = object (put_result text no_members)
+
+-- what an expression is worth, and the number of it
+abbrev pub put_number : Option (List ℕ) → Members → Members
+put_number None members = members
+put_number (Some text) members = put (codes "number") (string text) members
+
+abbrev pub worth_body : List ℕ → Option (List ℕ) → Data
+worth_body text worth = object (put_number worth (put_result text no_members))
+
+-- what a line of the console replies, after the line of a script that was done for it; and the fault that has ended its steps
+abbrev pub line_body : List ℕ → List ℕ → Option MixFault → Data
+line_body line text fault = object (put_fault fault (put_result text (put (codes "line") (string line) no_members)))
 
 -- a launch is done, unless a text of it is refused
 abbrev pub launch_shown : Result SessionState Fault → Result Data Fault
@@ -87,8 +99,8 @@ launch_events said (Ok session) = said ++ initialized ∷ []
 launch_events said (Err why) = said
 
 abbrev pub launch_told : Texts → List Event
-launch_told texts = launch_events (report_told (report (string_bytes texts.name) texts.source.items)) (launched_of texts)
+launch_told texts = launch_events (report_told (report (string_bytes texts.name) (source_of texts))) (launched_of texts)
 
--- an adapter is as its launch asked: the names of its source, whether it stops at its beginning, no breakpoint, and no fault
+-- an adapter is as its launch asked: the names of its source, how it begins, no breakpoint, and no fault
 abbrev pub HasTexts : Adapter → Texts → Type 0
-HasTexts a texts = (string_bytes a.name ≡ string_bytes texts.name) × (a.stops ≡ texts.stops) × (a.points ≡ no_points) × (a.fault ≡ None)
+HasTexts a texts = (string_bytes a.name ≡ string_bytes texts.name) × (a.opening ≡ texts.opening) × (a.points ≡ no_points) × (a.fault ≡ None)

@@ -20,6 +20,7 @@ use Rattle.mix_dap.specs.declared.arguments.name.ArgumentName.TheVariants as nam
 use Rattle.mix_dap.specs.declared.kind.Act.TheVariants as act
 use Rattle.mix_dap.specs.declared.kind.Kind.{Kind}
 use Rattle.mix_dap.specs.declared.kind.Kind.TheVariants as kind
+use Rattle.mix_dap.specs.declared.kind.given.Given.TheVariants as given
 use Rattle.mix_dap.specs.declared.kind.Look.TheVariants as look
 use Rattle.mix_dap.specs.declared.kind.Target.TheVariants as target
 
@@ -43,8 +44,9 @@ may called form = argument.One (member.May called form)
 -- what a request reads
 abbrev pub arguments_of : Kind → List Argument
 arguments_of kind.Initialize = may name.LinesStartAt1 form.Flag ∷ may name.ColumnsStartAt1 form.Flag ∷ may name.SupportsInvalidatedEvent form.Flag ∷ []
-arguments_of kind.Launch = may name.Program form.Text ∷ may name.SourceText form.Text ∷ may name.Devices form.Text ∷ may name.DevicesText form.Text ∷ may name.Cards form.Text ∷ may name.CardsText form.Text ∷ may name.StopOnEntry form.Flag ∷ []
-arguments_of kind.Check = needs name.Source form.Text ∷ []
+arguments_of kind.Launch = may name.Program form.Text ∷ may name.SourceText form.Text ∷ may name.Devices form.Text ∷ may name.DevicesText form.Text ∷ may name.Cards form.Text ∷ may name.CardsText form.Text ∷ may name.Typewriter form.Text ∷ may name.TypewriterText form.Text ∷ may name.StopOnEntry form.Flag ∷ may name.NoDebug form.Flag ∷ []
+arguments_of (kind.Given given.Check) = needs name.Source form.Text ∷ []
+arguments_of (kind.Given given.Bundle) = needs name.Text form.Text ∷ []
 arguments_of (kind.Points target.Lines) = argument.Source ∷ argument.List name.Breakpoints entry.Line ∷ []
 arguments_of (kind.Points target.Instructions) = argument.List name.Breakpoints entry.Instruction ∷ []
 arguments_of (kind.Points target.Data) = argument.List name.Breakpoints entry.Part ∷ []
@@ -64,7 +66,7 @@ arguments_of (kind.Look look.State) = argument.Cells ∷ may name.Nonzero form.F
 arguments_of (kind.Look look.Units) = may name.Unit any_number ∷ may name.Block any_number ∷ []
 arguments_of (kind.Look look.Change) = needs name.Number any_number ∷ may name.Field any_byte ∷ may name.Conflict form.Flag ∷ []
 arguments_of (kind.Look look.Next) = may name.Field any_byte ∷ []
-arguments_of (kind.Look look.Writes) = needs name.Part form.Text ∷ may name.Count (form.Natural 1000) ∷ may name.Until any_number ∷ []
+arguments_of (kind.Look look.Writes) = needs name.Part form.Text ∷ may name.Count (form.Natural 1000) ∷ may name.Until any_number ∷ may name.Total form.Flag ∷ []
 arguments_of (kind.Act act.Goto) = needs name.TargetId any_number ∷ []
 arguments_of (kind.Act act.SetVariable) = needs name.VariablesReference any_number ∷ needs name.Name form.Text ∷ needs name.Value form.Text ∷ []
 arguments_of (kind.Act act.SetExpression) = needs name.Expression form.Text ∷ needs name.Value form.Text ∷ []

@@ -4,7 +4,7 @@ use Rattle.serde_json.specs.Data.{Data, null}
 use Rattle.dap_message.specs.declared.outbox.Outbox.{Outbox}
 use Rattle.dap_message.specs.declared.request.Request.{Request}
 use Rattle.mix_dap.specs.Capabilities.{capabilities, client_of}
-use Rattle.mix_dap.specs.Check.{checked}
+use Rattle.mix_dap.specs.Given.{given_told}
 use Rattle.mix_dap.specs.Events.{AddsAnswer, Event, terminated}
 use Rattle.mix_dap.specs.Replies.{answer_message}
 use Rattle.mix_dap.specs.Texts.{Known, AreTexts, RefusesTexts}
@@ -23,7 +23,7 @@ answer_before kind.Terminate r = Some (Ok null)
 answer_before kind.Disconnect r = Some (Ok null)
 answer_before kind.Launch r = None
 answer_before (kind.Look look) r = Some (Err fault.NotLaunched)
-answer_before kind.Check r = Some (checked r)
+answer_before (kind.Given given) r = Some (given_told given r)
 answer_before (kind.Points target) r = Some (Err fault.NotLaunched)
 answer_before kind.Pause r = Some (Err fault.NotLaunched)
 answer_before kind.Restart r = Some (Err fault.NotLaunched)

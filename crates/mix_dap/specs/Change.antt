@@ -1,11 +1,12 @@
 -- `mix/change`: a change by its number, where it was done, what it did, how long it took, and what it altered.
-use Rattle.std.specs.Prelude.{ℕ, ◌-◌, Bool, true, false, Option, None, Some, List, [], ◌∷◌, codes, flat_map, map, Result, Ok, ok_or}
+use Rattle.std.specs.Prelude.{ℕ, ◌-◌, Bool, true, false, Option, None, Some, List, [], ◌∷◌, codes, flat_map, map, nat_lt, Result, Ok, ok_or, if◌then◌else◌}
 use Rattle.serde_json.specs.Data.{Data, Members, array, string, number, unsigned, object, no_members, put}
 use Rattle.serde_json.specs.View.{items_of}
 use Rattle.mixal_text.specs.Steps.{◌>>=◌}
 use Rattle.mix_word.specs.Field.{FieldValue}
 use Rattle.mix_machine.specs.World.{WorldState, cell_of, register_of, unit_at}
 use Rattle.mix_machine.specs.declared.old.Change.{Change}
+use Rattle.mix_machine.specs.declared.old.Change.TheVariants.{Step, SetReg, SetCell, SetLoc, SetOver, SetCmp, Break, Clear}
 use Rattle.mix_machine.specs.declared.transfers.Conflict.{Conflict}
 use Rattle.mix_session.specs.Altered.{altered_by, unit_differences}
 use Rattle.mix_session.specs.Change.{change_text, world_at}
@@ -20,7 +21,7 @@ use Rattle.mix_session.specs.declared.altered.unit.UnitDifference.{UnitDifferenc
 use Rattle.mix_session.specs.declared.altered.unit.UnitDifference.TheVariants.{Block, Number}
 use Rattle.dap_message.specs.Request.{flag_of, number_of}
 use Rattle.dap_message.specs.declared.request.Request.{Request}
-use Rattle.mix_dap.specs.Decoded.{field_asked, put_field}
+use Rattle.mix_dap.specs.Decoded.{field_asked, put_field, put_instruction}
 use Rattle.mix_dap.specs.View.{put_digits, part_name}
 use Rattle.mix_dap.specs.declared.fault.Fault.{Fault}
 use Rattle.mix_dap.specs.declared.fault.Fault.TheVariants as fault
@@ -59,11 +60,32 @@ items_of_part field v w other = part_item field v w other ∷ []
 abbrev pub items_of_change : Option FieldValue → Change → WorldState → WorldState → List Data
 items_of_change field change v w = flat_map (items_of_part field v w) (altered_by change v w)
 
+-- what a change is: a step, or a command by the word with which it begins
+abbrev pub change_kind : Change → List ℕ
+change_kind Step = codes "step"
+change_kind (SetReg r word) = codes "set"
+change_kind (SetCell p word) = codes "set"
+change_kind (SetLoc p) = codes "set"
+change_kind (SetOver b) = codes "set"
+change_kind (SetCmp c) = codes "set"
+change_kind (Break p) = codes "break"
+change_kind (Clear p) = codes "clear"
+
+-- the instruction at the location, if its C and F name an operation
+abbrev pub put_instruction_here : WorldState → Members → Members
+put_instruction_here w members = if nat_lt w.loc 4000 then put_instruction w (cell_of w w.loc) members else members
+
+-- of a step the instruction that it does
+abbrev pub put_done : Change → WorldState → Members → Members
+put_done Step w members = put_instruction_here w members
+put_done other w members = members
+
 -- a change of a number, from one state to another
 abbrev pub change_members : ℕ → Option FieldValue → Change → WorldState → WorldState → Members
 change_members n field change v w =
-    put (codes "items") (array (items_of (items_of_change field change v w))) (put_digits (codes "time") (w.clock - v.clock)
-    (put (codes "text") (string (change_text v change)) (put (codes "location") (number (unsigned v.loc)) (put (codes "number") (number (unsigned n)) no_members))))
+    put_done change v (put (codes "locationAfter") (number (unsigned w.loc)) (put (codes "kind") (string (change_kind change))
+    (put (codes "items") (array (items_of (items_of_change field change v w))) (put_digits (codes "time") (w.clock - v.clock)
+    (put (codes "text") (string (change_text v change)) (put (codes "location") (number (unsigned v.loc)) (put (codes "number") (number (unsigned n)) no_members)))))))
 
 -- with what it conflicts, where that is asked for
 abbrev pub conflict_shown : Conflict → Data

@@ -6,6 +6,8 @@ use Rattle.dap_message.specs.Message.{next_seq, waits, event_message}
 use Rattle.dap_message.specs.declared.outbox.Outbox.{Outbox}
 use Rattle.mix_dap.specs.Stopped.{Why, only, stopped_body}
 use Rattle.mix_dap.specs.declared.capabilities.Client.{Client}
+use Rattle.mix_dap.specs.declared.launch.Opening.{Opening}
+use Rattle.mix_dap.specs.declared.launch.Opening.TheVariants as opening
 
 -- an event: its name, and its body
 pub record Event : Type 0 where
@@ -70,6 +72,7 @@ abbrev pub invalidated : Client → List Event
 invalidated client = invalidated_if client.hears_invalidated
 
 -- the program stops at its beginning, if the launch asked for that
-abbrev pub beginning : Bool → List Event
-beginning true = stopped (only (codes "entry")) ∷ []
-beginning false = []
+abbrev pub beginning : Opening → List Event
+beginning opening.Stops = stopped (only (codes "entry")) ∷ []
+beginning opening.Runs = []
+beginning opening.Free = []

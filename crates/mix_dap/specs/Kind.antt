@@ -10,6 +10,7 @@ use Rattle.mix_dap.specs.declared.fault.Fault.TheVariants as fault
 use Rattle.mix_dap.specs.declared.kind.Kind.{Kind}
 use Rattle.mix_dap.specs.declared.kind.Kind.TheVariants as kind
 use Rattle.mix_dap.specs.declared.kind.Act.TheVariants as act
+use Rattle.mix_dap.specs.declared.kind.given.Given.TheVariants as given
 use Rattle.mix_dap.specs.declared.kind.Look.TheVariants as look
 use Rattle.mix_dap.specs.declared.kind.Target.TheVariants as target
 
@@ -59,7 +60,8 @@ requests =
     (codes "mix/change", kind.Look look.Change) ∷
     (codes "mix/next", kind.Look look.Next) ∷
     (codes "mix/writes", kind.Look look.Writes) ∷
-    (codes "mix/check", kind.Check) ∷ []
+    (codes "mix/check", kind.Given given.Check) ∷
+    (codes "mix/bundle", kind.Given given.Bundle) ∷ []
 
 -- what a name names among some rows, letter for letter
 abbrev pub kind_among : List ℕ → List (List ℕ × Kind) → Option Kind
@@ -86,7 +88,7 @@ kind_asked r = kind_read (kind_named (name_of r)) r
 
 abbrev pub needs_program : Kind → Bool
 needs_program kind.Initialize = false
-needs_program kind.Check = false
+needs_program (kind.Given given) = false
 needs_program kind.Launch = false
 needs_program kind.Terminate = false
 needs_program kind.Disconnect = false

@@ -1,11 +1,12 @@
--- What a launch loads: the machine of a source, with the units of a deck and the cards of a text, or the fault of the first text that is at fault.
+-- What a launch loads: the machine of a source, with the units of a deck, the cards of a text, and what another gives to be typed; or the fault of the
+-- first text that is at fault.
 use Rattle.std.specs.Prelude.{ℕ, List, Option, None, Some, Result, Ok, Err}
 use Rattle.mixal_text.specs.Steps.{◌>>=◌}
 use Rattle.mixal_asm.specs.Assembly.{assembly}
 use Rattle.mixal_asm.specs.Program.{ProgramValue}
 use Rattle.mixal_asm.specs.declared.fault.AsmFault.{AsmFault}
 use Rattle.mix_machine.specs.units.Units.{UnitsState}
-use Rattle.mix_machine.specs.units.deck.Deck.{deck_of, cards_of}
+use Rattle.mix_machine.specs.units.deck.Deck.{deck_of, cards_of, typewriter_of}
 use Rattle.mix_machine.specs.declared.units.deck_fault.DeckFault.{DeckFault}
 use Rattle.mix_session.specs.Session.{SessionState, opened}
 use Rattle.mix_dap.specs.declared.fault.Fault.{Fault}
@@ -28,13 +29,23 @@ abbrev pub cards_launched : UnitsState → Option (List ℕ) → Result UnitsSta
 cards_launched units None = Ok units
 cards_launched units (Some cards) = or_cards (cards_of units cards)
 
-unfoldable pub units_launched : List ℕ → Option (List ℕ) → Result UnitsState Fault
-units_launched deck cards = do
-  units ← or_deck (deck_of deck)
-  cards_launched units cards
+-- and the lines of another in place of those that the typewriter would give
+abbrev pub or_typed : Result UnitsState DeckFault → Result UnitsState Fault
+or_typed (Ok units) = Ok units
+or_typed (Err at) = Err (fault.Typed at)
 
-unfoldable pub launched : List ℕ → List ℕ → Option (List ℕ) → Result SessionState Fault
-launched source deck cards = do
+abbrev pub typed_launched : UnitsState → Option (List ℕ) → Result UnitsState Fault
+typed_launched units None = Ok units
+typed_launched units (Some typed) = or_typed (typewriter_of units typed)
+
+unfoldable pub units_launched : List ℕ → Option (List ℕ) → Option (List ℕ) → Result UnitsState Fault
+units_launched deck cards typed = do
+  units ← or_deck (deck_of deck)
+  fed ← cards_launched units cards
+  typed_launched fed typed
+
+unfoldable pub launched : List ℕ → List ℕ → Option (List ℕ) → Option (List ℕ) → Result SessionState Fault
+launched source deck cards typed = do
   program ← or_source (assembly source)
-  units ← units_launched deck cards
+  units ← units_launched deck cards typed
   Ok (opened program units)

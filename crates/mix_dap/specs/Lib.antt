@@ -4,6 +4,7 @@ pub mod Arguments
 pub mod Asked
 pub mod Before
 pub mod Breakpoint
+pub mod Bundle
 pub mod Capabilities
 pub mod Change
 pub mod Check
@@ -15,9 +16,11 @@ pub mod Decoded
 pub mod Deed
 pub mod Dialogue
 pub mod Disassembly
+pub mod Ended
 pub mod Entries
 pub mod Events
 pub mod Fault
+pub mod Given
 pub mod Kind
 pub mod Launch
 pub mod Launched

@@ -88,6 +88,11 @@ scopes = object (list_members (codes "scopes")
 abbrev pub put_exception : MixFault → Members → Members
 put_exception f members = put (codes "description") (string (fault_text f)) (put (codes "exceptionId") (string (codes "M" ++ decimal (fault_number f))) members)
 
+-- the fault that has ended some steps, if one has
+abbrev pub put_fault : Option MixFault → Members → Members
+put_fault None members = members
+put_fault (Some f) members = put (codes "fault") (object (put_exception f no_members)) members
+
 -- the answer to `exceptionInfo`: the fault that the last run has ended with
 abbrev pub exception_shown : MixFault → Data
 exception_shown f = object (put (codes "breakMode") (string (codes "always")) (put_exception f no_members))

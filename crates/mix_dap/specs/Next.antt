@@ -11,7 +11,7 @@ use Rattle.mix_session.specs.Change.{change_text}
 use Rattle.mix_session.specs.Session.{SessionState}
 use Rattle.mix_session.specs.Timeline.{Timeline, world_of}
 use Rattle.dap_message.specs.declared.request.Request.{Request}
-use Rattle.mix_dap.specs.Change.{change_members}
+use Rattle.mix_dap.specs.Change.{change_kind, change_members, put_instruction_here}
 use Rattle.mix_dap.specs.Decoded.{field_asked}
 use Rattle.mix_dap.specs.Look.{put_exception}
 use Rattle.mix_dap.specs.declared.fault.Fault.{Fault}
@@ -19,7 +19,8 @@ use Rattle.mix_dap.specs.declared.fault.Fault.{Fault}
 -- a step that is refused: its number, where it would be done, the instruction, and the fault
 abbrev pub next_refused : ℕ → WorldState → MixFault → Data
 next_refused n w f =
-    object (put_exception f (put (codes "text") (string (change_text w Step)) (put (codes "location") (number (unsigned w.loc)) (put (codes "number") (number (unsigned n)) no_members))))
+    object (put_instruction_here w (put (codes "kind") (string (change_kind Step))
+    (put_exception f (put (codes "text") (string (change_text w Step)) (put (codes "location") (number (unsigned w.loc)) (put (codes "number") (number (unsigned n)) no_members))))))
 
 -- from a machine to what a step makes of it
 abbrev pub next_to : ℕ → Option FieldValue → WorldState → Result WorldState MixFault → Data

@@ -222,3 +222,11 @@ points_told target.Instructions s name first r = instructions_told s r
 points_told target.Data s name first r = watched_told s r
 points_told target.Exceptions s name first r = filters_told r
 points_told target.Nothing s name first r = functions_told r
+
+-- none is set on a program that is not debugged
+abbrev pub none_set : Target → Request → Data
+none_set target.Lines r = answer_by (none_told (codes "not debugged")) (asked_in r)
+none_set target.Instructions r = answer_by (none_told (codes "not debugged")) (asked_in r)
+none_set target.Data r = answer_by (none_told (codes "not debugged")) (asked_in r)
+none_set target.Exceptions r = answer_by (none_told (codes "not debugged")) (filters_in r)
+none_set target.Nothing r = functions_told r

@@ -14,18 +14,18 @@ use Rattle.mix_session.specs.declared.answer.Answer.{Answer}
 use Rattle.mix_session.specs.declared.request.Request.TheVariants as ask
 use Rattle.dap_message.specs.Request.{text_of as text_in}
 use Rattle.dap_message.specs.declared.request.Request.{Request}
-use Rattle.mix_dap.specs.Answer.{shown_of, continued, value_body, result_body, line_body}
+use Rattle.mix_dap.specs.Answer.{shown_of, continued, value_body, result_body, worth_body, line_body}
 use Rattle.mix_dap.specs.Capabilities.{capabilities}
-use Rattle.mix_dap.specs.Check.{checked}
+use Rattle.mix_dap.specs.Given.{given_told}
 use Rattle.mix_dap.specs.Console.{line_meant, said_of}
 use Rattle.mix_dap.specs.Deed.{deed_of, effect_of_deed, is_line, line_deed}
 use Rattle.mix_dap.specs.Events.{Event, beginning, invalidated, stopped, terminated}
 use Rattle.mix_dap.specs.Leaves.{refusal_in}
 use Rattle.mix_dap.specs.Output.{all_told, outputs}
-use Rattle.mix_dap.specs.Points.{PointsState, points_after, points_told}
+use Rattle.mix_dap.specs.Points.{PointsState, none_set, points_after, points_told}
 use Rattle.mix_dap.specs.Runs.{word_at}
-use Rattle.mix_dap.specs.Stopped.{end_of, fault_at, only, why_of}
-use Rattle.mix_dap.specs.Value.{evaluated, value_asked, worth_asked}
+use Rattle.mix_dap.specs.Stopped.{end_of, fault_at, fault_in, only, why_of}
+use Rattle.mix_dap.specs.Value.{evaluated, number_asked, value_asked, worth_asked}
 use Rattle.mix_dap.specs.Written.{bytes_written, with_cells, write_asked}
 use Rattle.mix_dap.specs.declared.adapter.Adapter.{Adapter}
 use Rattle.mix_dap.specs.declared.adapter.Then.{Then}
@@ -39,6 +39,9 @@ use Rattle.mix_dap.specs.declared.kind.Act.{Act}
 use Rattle.mix_dap.specs.declared.kind.Act.TheVariants as act
 use Rattle.mix_dap.specs.declared.kind.Kind.{Kind}
 use Rattle.mix_dap.specs.declared.kind.Kind.TheVariants as kind
+use Rattle.mix_dap.specs.declared.kind.Target.{Target}
+use Rattle.mix_dap.specs.declared.launch.Opening.{Opening}
+use Rattle.mix_dap.specs.declared.launch.Opening.TheVariants as opening
 use Rattle.mix_dap.specs.declared.printed.Printed.{Printed}
 
 -- What is left and told, and what comes then.
@@ -64,10 +67,10 @@ pub record Beside : Type 0 where
   pub fault : Option MixFault
   pub printed : Printed
   pub client : Client
-  pub stops : Bool
+  pub opening : Opening
 
 abbrev pub beside : Adapter → Beside
-beside a = record { points = a.points; fault = a.fault; printed = a.printed; client = a.client; stops = a.stops }
+beside a = record { points = a.points; fault = a.fault; printed = a.printed; client = a.client; opening = a.opening }
 
 -- everything is as it was, and nothing is told but that the request is done
 abbrev pub stays : Beside → Timeline → Reaction
@@ -89,9 +92,10 @@ abbrev pub refuses : Adapter → Fault → Reaction
 refuses a why = record (still a) { body = Err why }
 
 -- the program runs from its beginning, unless the launch asked to stop there
-abbrev pub begun : Bool → Then
-begun true = then.Wait
-begun false = then.Run (way.Forth None)
+abbrev pub begun : Opening → Then
+begun opening.Stops = then.Wait
+begun opening.Runs = then.Run (way.Forth None)
+begun opening.Free = then.Run (way.Forth None)
 
 -- the location to which a subroutine returns: that in rJ
 abbrev pub return_location : ℕ → Option ℕ
@@ -114,11 +118,11 @@ acted act.Continue answer r b s = record (stays b s.timeline) { fault = None; bo
 acted act.StepOut answer r b s =
     record (stays b s.timeline) { fault = None; later = then.Run (way.Forth (return_location (register_of (world_of s.timeline) reg.J).magnitude)) }
 acted act.ReverseContinue answer r b s = record (stays b s.timeline) { fault = None; later = then.Run way.Back }
-acted act.Begin answer r b s = record (stays b s.timeline) { fault = None; events = beginning b.stops; later = begun b.stops }
+acted act.Begin answer r b s = record (stays b s.timeline) { fault = None; events = beginning b.opening; later = begun b.opening }
 acted act.Goto answer r b s = record (stays b s.timeline) { events = stopped (only (codes "goto")) ∷ [] }
 acted act.SetVariable answer r b s = record (stays b s.timeline) { body = Ok (value_body (value_asked (world_of s.timeline) r)); events = invalidated b.client }
 acted act.SetExpression answer r b s = record (stays b s.timeline) { body = Ok (value_body (worth_asked s r)); events = invalidated b.client }
-acted act.Evaluate answer r b s = record (stays b s.timeline) { body = Ok (result_body (evaluated s r)) }
+acted act.Evaluate answer r b s = record (stays b s.timeline) { body = Ok (worth_body (evaluated s r) (number_asked s r)) }
 
 -- unless the session refuses it
 abbrev pub unless : Option Fault → Act → Effect → Request → Adapter → Reaction
@@ -144,7 +148,7 @@ abbrev pub replied : List ℕ → Answer → Beside → SessionState → Reactio
 replied line answer b s = record (stays b s.timeline) {
   fault = None;
   printed = all_told (world_of s.timeline);
-  body = Ok (line_body (utf8_lossy line) (utf8_lossy (text_of answer s.program s.timeline)));
+  body = Ok (line_body (utf8_lossy line) (utf8_lossy (text_of answer s.program s.timeline)) (fault_in answer));
   events = outputs b.printed (world_of s.timeline) ++ invalidated b.client;
 }
 
@@ -181,18 +185,26 @@ abbrev pub restarted : Beside → Timeline → Reaction
 restarted b t = record (stays b t) {
   fault = None;
   printed = all_told (world_of t);
-  events = outputs b.printed (world_of t) ++ beginning b.stops;
-  later = begun b.stops;
+  events = outputs b.printed (world_of t) ++ beginning b.opening;
+  later = begun b.opening;
 }
+
+-- breakpoints are set, unless the program is not debugged
+abbrev pub points_set : Opening → Target → Request → Adapter → PointsState
+points_set opening.Stops target r a = points_after target a.session (string_bytes a.name) a.client.first r a.points
+points_set opening.Runs target r a = points_after target a.session (string_bytes a.name) a.client.first r a.points
+points_set opening.Free target r a = a.points
+
+abbrev pub points_answer : Opening → Target → Request → Adapter → Data
+points_answer opening.Stops target r a = points_told target a.session (string_bytes a.name) a.client.first r
+points_answer opening.Runs target r a = points_told target a.session (string_bytes a.name) a.client.first r
+points_answer opening.Free target r a = none_set target r
 
 abbrev pub reaction : Kind → Request → Adapter → Reaction
 reaction kind.Initialize r a = record (still a) { body = Ok capabilities }
 reaction (kind.Look look) r a = record (still a) { body = shown_of look r a }
-reaction kind.Check r a = record (still a) { body = checked r }
-reaction (kind.Points target) r a = record (still a) {
-  points = points_after target a.session (string_bytes a.name) a.client.first r a.points;
-  body = Ok (points_told target a.session (string_bytes a.name) a.client.first r);
-}
+reaction (kind.Given given) r a = record (still a) { body = given_told given r }
+reaction (kind.Points target) r a = record (still a) { points = points_set a.opening target r a; body = Ok (points_answer a.opening target r a) }
 reaction kind.Pause r a = record (still a) { events = stopped (only (codes "pause")) ∷ [] }
 reaction kind.Terminate r a = record (still a) { events = terminated ∷ [] }
 reaction kind.Restart r a = restarted (beside a) (after (effect_of a.session.timeline ask.BackAll))

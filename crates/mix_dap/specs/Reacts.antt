@@ -11,9 +11,10 @@ use Rattle.mix_session.specs.declared.request.Request.TheVariants as ask
 use Rattle.dap_message.specs.declared.outbox.Outbox.{Outbox}
 use Rattle.dap_message.specs.declared.request.Request.{Request}
 use Rattle.mix_dap.specs.Deed.{deed_asked}
-use Rattle.mix_dap.specs.Events.{AddsAnswer, AddsEvents, stopped}
+use Rattle.mix_dap.specs.Events.{AddsAnswer, AddsEvents}
 use Rattle.mix_dap.specs.Kind.{kind_asked}
 use Rattle.mix_dap.specs.Leaves.{Leaves}
+use Rattle.mix_dap.specs.Ended.{end_told}
 use Rattle.mix_dap.specs.Output.{all_told, outputs}
 use Rattle.mix_dap.specs.Points.{PointsState}
 use Rattle.mix_dap.specs.Reaction.{Reaction, reaction, reaction_to}
@@ -56,7 +57,7 @@ pub record Runs (way : Way) (a b : Adapter) (old new : Outbox) : Type 0 where
   pub ran : Ran way a.points a.session.timeline ended b.points b.session.timeline
   pub fault : b.fault ≡ fault_ran ended
   pub printed : b.printed ≡ all_told (world_of b.session.timeline)
-  pub told : AddsEvents (outputs a.printed (world_of b.session.timeline) ++ stopped (why_ran way b.points b.session.timeline ended) ∷ []) old new
+  pub told : AddsEvents (outputs a.printed (world_of b.session.timeline) ++ end_told a.opening ended (why_ran way b.points b.session.timeline ended)) old new
 
 abbrev pub GoesOn : Then → Adapter → Adapter → Outbox → Outbox → Type 0
 GoesOn then.Wait a b old new = (b ≡ a) × (new ≡ old)
@@ -115,8 +116,8 @@ ReactsPartly (Ok k) r a new = Leaving k r a new
 
 -- what nothing alters: what the launch and the client said
 abbrev pub KeepsSaid : Adapter → Adapter → Type 0
-KeepsSaid a b = (b.name ≡ a.name) × (b.client ≡ a.client) × (b.stops ≡ a.stops)
+KeepsSaid a b = (b.name ≡ a.name) × (b.client ≡ a.client) × (b.opening ≡ a.opening)
 
 -- what no request alters but one that sets breakpoints: those too
 abbrev pub Keeps : Adapter → Adapter → Type 0
-Keeps a b = (b.name ≡ a.name) × (b.client ≡ a.client) × (b.stops ≡ a.stops) × (b.points ≡ a.points)
+Keeps a b = (b.name ≡ a.name) × (b.client ≡ a.client) × (b.opening ≡ a.opening) × (b.points ≡ a.points)

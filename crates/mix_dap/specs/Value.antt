@@ -78,6 +78,24 @@ text_of_worth w (Some worth) = worth_text w worth
 abbrev pub expression_asked : SessionState → Request → Option Worth
 expression_asked s r = option_and_then (worth_of s) (text_of r (codes "expression"))
 
+-- the number of what a part holds: that of a word, a location or a time; the toggle, the indicator and a unit hold none
+abbrev pub number_held : WorldState → Part → Option (List ℕ)
+number_held w (part.Register r) = Some (number_text (register_of w r))
+number_held w part.Over = None
+number_held w part.Cmp = None
+number_held w part.Loc = Some (decimal w.loc)
+number_held w part.Clock = Some (decimal w.clock)
+number_held w (part.Cell place) = Some (number_text (cell_of w place))
+number_held w (part.Unit n) = None
+
+abbrev pub number_of_worth : WorldState → Worth → Option (List ℕ)
+number_of_worth w (worth.Word word) = Some (number_text word)
+number_of_worth w (worth.Held part) = number_held w part
+
+-- the number of what the expression of a request is worth
+abbrev pub number_asked : SessionState → Request → Option (List ℕ)
+number_asked s r = option_and_then (number_of_worth (world_of s.timeline)) (expression_asked s r)
+
 -- the answer to `setExpression`
 abbrev pub worth_asked : SessionState → Request → List ℕ
 worth_asked s r = text_of_worth (world_of s.timeline) (expression_asked s r)

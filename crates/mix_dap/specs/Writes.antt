@@ -1,5 +1,5 @@
 -- `mix/writes`: the changes that altered a part of the machine, and what it held before and after each.
-use Rattle.std.specs.Prelude.{ℕ, List, codes, length, map, min, nat_lt, take, Result, Ok, Err, ok_or, unwrap_or, if◌then◌else◌}
+use Rattle.std.specs.Prelude.{ℕ, Bool, true, false, List, codes, length, map, min, nat_lt, take, Result, Ok, Err, ok_or, unwrap_or, if◌then◌else◌}
 use Rattle.serde_json.specs.Data.{Data, Members, boolean, number, string, unsigned, object, no_members, put}
 use Rattle.mixal_text.specs.Steps.{◌>>=◌}
 use Rattle.mix_word.specs.Word.{WordValue}
@@ -12,9 +12,9 @@ use Rattle.mix_session.specs.Session.{SessionState}
 use Rattle.mix_session.specs.Timeline.{Timeline}
 use Rattle.mix_session.specs.Writes.{writes_back}
 use Rattle.mix_session.specs.declared.writes.Write.{Write}
-use Rattle.dap_message.specs.Request.{text_of, number_of}
+use Rattle.dap_message.specs.Request.{flag_of, text_of, number_of}
 use Rattle.dap_message.specs.declared.request.Request.{Request}
-use Rattle.mix_dap.specs.List.{list_alone}
+use Rattle.mix_dap.specs.List.{list_members}
 use Rattle.mix_dap.specs.View.{put_digits, put_register, word_shown}
 use Rattle.mix_dap.specs.Watch.{part_named}
 use Rattle.mix_dap.specs.declared.fault.Fault.{Fault}
@@ -38,9 +38,19 @@ abbrev pub write_shown : Part → Write → Data
 write_shown p write =
     object (put_mark p (codes "after") write.after (put_mark p (codes "before") write.before (put (codes "number") (number (unsigned write.number)) no_members)))
 
--- the last ones of the first `until` changes done
-abbrev pub writes_shown : Timeline → Part → ℕ → ℕ → Data
-writes_shown t p until most = list_alone (codes "writes") (map (write_shown p) (take most (writes_back t p (min until (length t.changes)))))
+-- those among the first `until` changes done, the last one first
+abbrev pub writes_until : Timeline → Part → ℕ → List Write
+writes_until t p until = writes_back t p (min until (length t.changes))
+
+-- how many they are, if that is asked for
+abbrev pub put_total : Bool → Timeline → Part → ℕ → Members → Members
+put_total true t p until members = put (codes "total") (number (unsigned (length (writes_until t p until)))) members
+put_total false t p until members = members
+
+-- the last ones of them
+abbrev pub writes_shown : Timeline → Part → ℕ → ℕ → Bool → Data
+writes_shown t p until most total =
+    object (put_total total t p until (list_members (codes "writes") (map (write_shown p) (take most (writes_until t p until)))))
 
 -- a number that is asked for, if none is greater
 abbrev pub up_to : ℕ → ℕ → Result ℕ Fault
@@ -53,4 +63,4 @@ writes_asked s r = do
   name ← ok_or (text_of r (codes "part")) fault.BadArgument
   p ← ok_or (part_named s name) fault.NoSuchThing
   most ← up_to 1000 (unwrap_or (number_of r (codes "count")) 1000)
-  Ok (writes_shown s.timeline p (unwrap_or (number_of r (codes "until")) (length s.timeline.changes)) most)
+  Ok (writes_shown s.timeline p (unwrap_or (number_of r (codes "until")) (length s.timeline.changes)) most (flag_of r (codes "total")))

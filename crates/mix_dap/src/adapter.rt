@@ -14,6 +14,7 @@ ghost use Rattle.mix_dap.specs.Replies.{answer_message};
 
 mod act;
 mod answer;
+mod bodies;
 mod console;
 mod ends;
 mod legs;
@@ -26,8 +27,9 @@ use crate::capabilities::Client;
 use crate::event::tell_event;
 use crate::fault::{Fault, refuse};
 use crate::kind::{Kind, kind_asked};
-use crate::launch::{Texts, session_of};
+use crate::launch::{Opening, Texts};
 use crate::list::nothing;
+use crate::loaded::session_of;
 use crate::points::Points;
 use crate::printed::Printed;
 use crate::report::tell_report;
@@ -75,7 +77,7 @@ pub struct Adapter {
     session: Session,
     name: String,
     client: Client,
-    stops: bool,
+    opening: Opening,
     points: Points,
     printed: Printed,
     fault: Option<MixFault>,
@@ -88,7 +90,7 @@ impl Drop for Adapter {
             session: _,
             name: _,
             client: _,
-            stops: _,
+            opening: _,
             points: _,
             printed: _,
             fault: _,
@@ -131,7 +133,7 @@ impl Adapter {
             session,
             name: texts.name,
             client: waiting.client(),
-            stops: texts.stops,
+            opening: texts.opening,
             points: Points::new(alloc),
             printed: Printed::none(),
             fault: None,

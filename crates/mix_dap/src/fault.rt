@@ -2,6 +2,7 @@
 
 ghost use Rattle.std.specs.Prelude.{◌≡◌, IfOk, OnOk, Some};
 ghost use Rattle.serde_json.specs.View.{view};
+ghost use Rattle.mix_machine.specs.units.deck.Fault.{deck_kind_text};
 ghost use Rattle.dap_message.specs.Message.{refusal_message, Adds};
 ghost use Rattle.mix_dap.specs.Fault.{fault_number, fault_text, fault_place, argument_place, text_place};
 
@@ -26,6 +27,8 @@ pub enum Fault {
     Deck(DeckFault),
     /// K3, K4, K8 or K9, at a line of the cards.
     Cards(DeckFault),
+    /// K3, K4, K8 or K9, at a line of what is typed.
+    Typed(DeckFault),
     /// T2: a file could not be read.
     Unread,
     /// T4: a file could not be opened.
@@ -60,7 +63,9 @@ impl Fault {
             Fault::NotLaunched => 303,
             Fault::Launched => 304,
             Fault::NoSuchThing => 306,
-            Fault::Deck(fault) | Fault::Cards(fault) => 400 + u64::from(fault.kind.number()),
+            Fault::Deck(fault) | Fault::Cards(fault) | Fault::Typed(fault) => {
+                400 + u64::from(fault.kind.number())
+            }
             Fault::Unread => 502,
             Fault::NotOpened => 504,
             Fault::TooLong => 506,
@@ -75,7 +80,9 @@ impl fmt::Display for Fault {
         match self {
             Fault::Source(fault) => write!(f, "{fault}"),
             Fault::Session(refusal) => write!(f, "{refusal}"),
-            Fault::Deck(fault) | Fault::Cards(fault) => write!(f, "T5 deck refused at {fault}"),
+            Fault::Deck(fault) | Fault::Cards(fault) | Fault::Typed(fault) => {
+                write!(f, "T5 deck refused at {fault}")
+            }
             Fault::Unread => write!(f, "T2 read failed"),
             Fault::NotOpened => write!(f, "T4 not opened"),
             Fault::TooLong => write!(f, "T6 input too long"),
@@ -107,9 +114,13 @@ fn fault_place(alloc: Global, fault: Fault) -> Result<Value, Memory>
     ensures { IfOk result (λ place. view place ≡ fault_place fault) }
 {
     match fault {
-        Fault::Source(at) => place_of(alloc, "source", at.line),
-        Fault::Deck(at) => place_of(alloc, "devices", at.line),
-        Fault::Cards(at) => place_of(alloc, "cards", at.line),
+        Fault::Source(AsmFault { line, kind, .. }) => {
+            let reason = format!(in alloc; "{kind}")?;
+            place_of(alloc, "source", line, reason.as_str())
+        }
+        Fault::Deck(at) => deck_place(alloc, "devices", at),
+        Fault::Cards(at) => deck_place(alloc, "cards", at),
+        Fault::Typed(at) => deck_place(alloc, "typewriter", at),
         Fault::Argument(name) => argument_place(alloc, name),
         Fault::Session(_)
         | Fault::NoSuchRequest
@@ -131,13 +142,22 @@ fn argument_place(alloc: Global, name: ArgumentName) -> Result<Value, Memory>
     Ok(place.done())
 }
 
-// Where a fault of a text stands: which text of a launch, and its line.
-fn place_of(alloc: Global, name: &str, line: u32) -> Result<Value, Memory>
-    ensures { IfOk result (λ place. view place ≡ text_place name.now line) }
+fn deck_place(alloc: Global, name: &str, at: DeckFault) -> Result<Value, Memory>
+    ensures { IfOk result (λ place. view place ≡ text_place name.now at.line (deck_kind_text at.kind)) }
+{
+    let DeckFault { line, kind } = at;
+    let reason = format!(in alloc; "{kind}")?;
+    place_of(alloc, name, line, reason.as_str())
+}
+
+// Where a fault of a text stands: which text of a launch, and its line; and what it is.
+fn place_of(alloc: Global, name: &str, line: u32, reason: &str) -> Result<Value, Memory>
+    ensures { IfOk result (λ place. view place ≡ text_place name.now line reason.now) }
 {
     let line = format!(in alloc; "{line}")?;
     let mut place = Fields::new(alloc);
     place.text("text", name)?;
     place.text("line", line.as_str())?;
+    place.text("reason", reason)?;
     Ok(place.done())
 }

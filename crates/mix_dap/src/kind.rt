@@ -4,9 +4,12 @@ ghost use Rattle.std.specs.Prelude.{◌≡◌, map};
 ghost use Rattle.mix_dap.specs.Arguments.{misread};
 ghost use Rattle.mix_dap.specs.Kind.{kind_among, kind_asked, kind_before, kind_named, needs_program, requests, unless_misread};
 
+mod given;
+
 use crate::arguments::misread;
 use crate::fault::Fault;
 use dap_message::Request;
+pub(crate) use given::Given;
 
 /// What a request is about.
 #[derive(Clone, Copy)]
@@ -15,8 +18,8 @@ pub(crate) enum Kind {
     Initialize,
     /// It only looks.
     Look(Look),
-    /// What there is to say of a text, whether a program is launched or not.
-    Check,
+    /// A text that the request gives, whether a program is launched or not.
+    Given(Given),
     /// Breakpoints, in place of those that stand.
     Points(Target),
     /// A run, which pauses.
@@ -169,7 +172,8 @@ fn requests() -> &'static [(&'static str, Kind)]
         ("mix/change", Kind::Look(Look::Change)),
         ("mix/next", Kind::Look(Look::Next)),
         ("mix/writes", Kind::Look(Look::Writes)),
-        ("mix/check", Kind::Check),
+        ("mix/check", Kind::Given(Given::Check)),
+        ("mix/bundle", Kind::Given(Given::Bundle)),
     ]
 }
 
@@ -228,7 +232,8 @@ fn needs_program(kind: Kind) -> bool
     ensures { result ≡ needs_program kind }
 {
     match kind {
-        Kind::Initialize | Kind::Check | Kind::Launch | Kind::Terminate | Kind::Disconnect => false,
+        Kind::Initialize | Kind::Given(_) | Kind::Launch | Kind::Terminate | Kind::Disconnect =>
+            false,
         Kind::Look(_)
         | Kind::Points(_)
         | Kind::Pause

@@ -1,23 +1,17 @@
 //! The texts that a launch asks for: given in the request, or read by their names.
 
-ghost use Rattle.std.specs.Prelude.{◌≡◌, ℕ, List, None, Some, IfOk, Ok, Err};
+ghost use Rattle.std.specs.Prelude.{◌≡◌, ℕ, List, None, Some, IfOk, Err};
 ghost use Rattle.std.specs.Option.{option_map};
 ghost use Rattle.mix_refused.specs.Refused.{IfFault};
-ghost use Rattle.mix_dap.specs.Launch.{launched, or_source, units_launched, cards_launched};
-ghost use Rattle.serde_json.specs.Data.{null};
-ghost use Rattle.mix_dap.specs.Answer.{launch_shown};
-ghost use Rattle.mix_dap.specs.Launched.{launched_of};
 ghost use Rattle.mix_dap.specs.declared.fault.Fault.TheVariants.{NotOpened};
-ghost use Rattle.mix_dap.specs.Texts.{Known, Gives, IsText, AreCards, AreTexts, RefusesText, RefusesTexts};
-ghost use Rattle.mixal_asm.specs.Assembly.{assembly};
+ghost use Rattle.mix_dap.specs.Texts.{Known, Gives, IsText, AreCards, AreTexts, opening_of, RefusesText, RefusesTexts};
 
 use crate::fault::Fault;
 use dap_message::Request;
-use mix_machine::{MAX_DECK_BYTES, Units};
+use mix_files::MAX_BUNDLE_BYTES;
+use mix_machine::MAX_DECK_BYTES;
 use mix_refused::Refused;
-use mix_session::Session;
 use mix_stream::{Counted, read_up_to};
-use mixal_asm::{MAX_SOURCE_BYTES, Program, assemble};
 use std::alloc::Global;
 use std::fs;
 use std::rt::Files;
@@ -83,18 +77,31 @@ impl Library for NoLibrary {
     }
 }
 
-/// What a launch asks for: a source with its name, a deck, cards in place of those of the deck, and whether to stop before the first step.
+/// How a program begins.
+#[derive(Clone, Copy)]
+pub(crate) enum Opening {
+    /// It waits before its first step.
+    Stops,
+    /// It runs.
+    Runs,
+    /// It runs and is not debugged: nothing but its end stops it.
+    Free,
+}
+
+/// What a launch asks for: a source or a bundle with its name, a deck in place of that of the bundle, cards and what is typed in place of those of
+/// the deck, and how the program begins.
 #[derive(Drop)]
 pub struct Texts {
     pub(crate) name: String,
     pub(crate) source: Vec<u8>,
-    pub(crate) deck: Vec<u8>,
+    pub(crate) deck: Option<Vec<u8>>,
     pub(crate) cards: Option<Vec<u8>>,
-    pub(crate) stops: bool,
+    pub(crate) typed: Option<Vec<u8>>,
+    pub(crate) opening: Opening,
 }
 
-/// The texts of a launch: `sourceText`, or the text of `program`; `devicesText`, or the text of `devices`, or none; `cardsText`, or the text of
-/// `cards`, or none.
+/// The texts of a launch: `sourceText`, or the text of `program`, which may be a bundle; `devicesText`, or the text of `devices`, or none; and so of
+/// cards and of what is typed.
 pub(crate) fn texts_of<L: Library>(
     alloc: Global,
     library: &L,
@@ -108,23 +115,39 @@ pub(crate) fn texts_of<L: Library>(
     if program.is_none() && given.is_none() {
         return Err(Refused::Fault(Fault::BadArgument));
     }
-    let source = text_of(alloc, library, given, program, MAX_SOURCE_BYTES + 1)?;
+    let source = text_of(alloc, library, given, program, MAX_BUNDLE_BYTES + 1)?;
     let (given, named) = (request.text("devicesText"), request.text("devices"));
-    let deck = text_of(alloc, library, given, named, MAX_DECK_BYTES + 1)?;
+    let deck = cards_of(alloc, library, given, named)?;
     let (given, named) = (request.text("cardsText"), request.text("cards"));
     let cards = cards_of(alloc, library, given, named)?;
+    let (given, named) = (request.text("typewriterText"), request.text("typewriter"));
+    let typed = cards_of(alloc, library, given, named)?;
     let name = String::from_str(alloc, program.unwrap_or("program.mixal"))?;
-    let stops = request.flag("stopOnEntry");
+    let opening = opening_of(request);
     Ok(Texts {
         name,
         source,
         deck,
         cards,
-        stops,
+        typed,
+        opening,
     })
 }
 
-// The cards that are given or named, if there are any.
+// How the program of a request begins.
+fn opening_of(request: &Request) -> Opening
+    ensures { result ≡ opening_of request.now }
+{
+    if request.flag("noDebug") {
+        Opening::Free
+    } else if request.flag("stopOnEntry") {
+        Opening::Stops
+    } else {
+        Opening::Runs
+    }
+}
+
+// A deck, cards or what is typed, if it is given or named.
 fn cards_of<L: Library>(
     alloc: Global,
     library: &L,
@@ -155,56 +178,5 @@ fn text_of<L: Library>(
         (Some(text), _) => Ok(Vec::from_slice(alloc, text.as_bytes())?),
         (None, Some(name)) => library.text(alloc, name, most),
         (None, None) => Ok(Vec::new(alloc)),
-    }
-}
-
-/// The session of the texts of a launch.
-#[tactic(auto, unfolding(crate::specs::Launch::launched))]
-pub(crate) fn session_of(alloc: Global, texts: &Texts) -> Result<Session, Refused<Fault>>
-    ensures ok { IfOk result (λ s. launched_of texts.now ≡ Ok s) }
-    ensures fault { IfFault result (λ f. launched_of texts.now ≡ Err f) }
-    ensures done { IfOk result (λ _. launch_shown (launched_of texts.now) ≡ Ok null) }
-    ensures refused { IfFault result (λ f. launch_shown (launched_of texts.now) ≡ Err f) }
-{
-    let program = program_of(alloc, texts.source.as_slice())?;
-    let units = units_of(alloc, texts.deck.as_slice(), texts.cards.as_deref())?;
-    Ok(Session::open(alloc, program, units)?)
-}
-
-fn program_of(alloc: Global, source: &[u8]) -> Result<Program, Refused<Fault>>
-    ensures ok { IfOk result (λ p. or_source (assembly source.now) ≡ Ok p) }
-    ensures fault { IfFault result (λ f. or_source (assembly source.now) ≡ Err f) }
-{
-    match assemble(alloc, source) {
-        Ok(program) => Ok(program),
-        Err(Refused::Fault(fault)) => Err(Refused::Fault(Fault::Source(fault))),
-        Err(Refused::Memory) => Err(Refused::Memory),
-    }
-}
-
-// The units of a deck, with the cards of a text where there is one.
-#[tactic(auto, unfolding(crate::specs::Launch::units_launched))]
-fn units_of(alloc: Global, deck: &[u8], cards: Option<&[u8]>) -> Result<Units, Refused<Fault>>
-    ensures ok { IfOk result (λ us. units_launched deck.now (option_map (λ c. c.now) cards.entry) ≡ Ok us) }
-    ensures fault { IfFault result (λ f. units_launched deck.now (option_map (λ c. c.now) cards.entry) ≡ Err f) }
-{
-    match Units::read(alloc, deck) {
-        Ok(units) => with_cards(alloc, units, cards),
-        Err(Refused::Fault(fault)) => Err(Refused::Fault(Fault::Deck(fault))),
-        Err(Refused::Memory) => Err(Refused::Memory),
-    }
-}
-
-fn with_cards(alloc: Global, units: Units, cards: Option<&[u8]>) -> Result<Units, Refused<Fault>>
-    ensures ok { IfOk result (λ us. cards_launched units (option_map (λ c. c.now) cards.entry) ≡ Ok us) }
-    ensures fault { IfFault result (λ f. cards_launched units (option_map (λ c. c.now) cards.entry) ≡ Err f) }
-{
-    let Some(cards) = cards else {
-        return Ok(units);
-    };
-    match units.with_cards(alloc, cards) {
-        Ok(units) => Ok(units),
-        Err(Refused::Fault(fault)) => Err(Refused::Fault(Fault::Cards(fault))),
-        Err(Refused::Memory) => Err(Refused::Memory),
     }
 }

@@ -16,6 +16,7 @@ mod kind;
 mod launch;
 mod layout;
 mod list;
+mod loaded;
 mod look;
 mod memory;
 mod points;

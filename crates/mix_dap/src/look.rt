@@ -1,11 +1,12 @@
 //! What is looked at: the one thread, its one frame, and the scopes.
 
 ghost use Rattle.std.specs.Prelude.{◌≡◌, IfOk, OnOk, string_bytes};
+ghost use Rattle.serde_json.specs.Data.{no_members, object};
 ghost use Rattle.serde_json.specs.View.{view};
 ghost use Rattle.dap_message.specs.Fields.{members_in};
 ghost use Rattle.mixal_asm.specs.Row.{source_value};
 ghost use Rattle.mix_session.specs.Timeline.{world_of};
-ghost use Rattle.mix_dap.specs.Look.{short_name, threads, source, line_for, source_line, line_of, line_of_cell, line_at, frame_name, put_line, frame_members, frame, stack_trace, put_exception, scope_members, scopes};
+ghost use Rattle.mix_dap.specs.Look.{short_name, threads, source, line_for, source_line, line_of, line_of_cell, line_at, frame_name, put_line, frame_members, frame, stack_trace, put_exception, put_fault, scope_members, scopes};
 
 use crate::layout::reference_of;
 use crate::list::{add, list_alone};
@@ -44,6 +45,28 @@ pub(crate) fn put_exception(alloc: Global, body: &mut Fields, fault: MixFault) -
     let id = format!(in alloc; "M{number}")?;
     body.text("exceptionId", id.as_str())?;
     body.text("description", fault.text())
+}
+
+/// The fault that has ended some steps, if one has.
+pub(crate) fn put_fault(
+    alloc: Global,
+    body: &mut Fields,
+    fault: Option<MixFault>,
+) -> Result<(), Memory>
+    ensures { OnOk result (members_in body.new ≡ put_fault fault (members_in body.old)) }
+{
+    match fault {
+        None => Ok(()),
+        Some(fault) => body.put("fault", exception(alloc, fault)?),
+    }
+}
+
+fn exception(alloc: Global, fault: MixFault) -> Result<Value, Memory>
+    ensures { IfOk result (λ v. view v ≡ object (put_exception fault no_members)) }
+{
+    let mut body = Fields::new(alloc);
+    put_exception(alloc, &mut body, fault)?;
+    Ok(body.done())
 }
 
 /// The only frame: the instruction at the location, with the line of the source that put the word there.

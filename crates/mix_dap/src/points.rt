@@ -135,7 +135,7 @@ impl Points {
         ensures told { IfOk result (λ v. view v ≡ lines_told session.now name.now first request.now) }
     {
         if !is_source(name, request) {
-            return never(alloc, "another source", request);
+            return never(alloc, "another source", request, "breakpoints");
         }
         let (lines, told) = set_all(alloc, &Lines { session, first }, request, "breakpoints")?;
         let cells = cells_of(alloc, lines.as_slice(), self.instructions.as_slice())?;

@@ -5,9 +5,11 @@ ghost use Rattle.std.specs.Str.Lossy.{utf8_lossy};
 ghost use Rattle.mix_check.specs.Report.{report};
 ghost use Rattle.mix_dap.specs.Answer.{report_told};
 ghost use Rattle.mix_dap.specs.Events.{AddsEvents};
+ghost use Rattle.mix_dap.specs.Launched.{source_of};
 ghost use Rattle.mix_dap.specs.Output.{output};
 
 use crate::launch::Texts;
+use crate::loaded::source_of;
 use dap_message::Outbox;
 use mix_check::add_report;
 use mix_refused::Memory;
@@ -15,15 +17,10 @@ use std::alloc::Global;
 
 /// Tells the faults and the warnings of the source, as `mixrev check` writes them.
 pub(crate) fn tell_report(alloc: Global, texts: &Texts, out: &mut Outbox) -> Result<(), Memory>
-    ensures { OnOk result (AddsEvents (report_told (report (string_bytes texts.now.name) texts.now.source.items)) out.old out.new) }
+    ensures { OnOk result (AddsEvents (report_told (report (string_bytes texts.now.name) (source_of texts.now))) out.old out.new) }
 {
     let mut text = Vec::new(alloc);
-    add_report(
-        alloc,
-        texts.name.as_str(),
-        texts.source.as_slice(),
-        &mut text,
-    )?;
+    add_report(alloc, texts.name.as_str(), source_of(texts), &mut text)?;
     tell_text(alloc, text.as_slice(), out)
 }
 

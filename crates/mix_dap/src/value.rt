@@ -1,8 +1,10 @@
 //! The values of the machine as texts.
 
 ghost use Rattle.std.specs.Prelude.{◌≡◌, ◌<◌, Some, None, IfOk, nat_lt, if◌then◌else◌, string_bytes};
+ghost use Rattle.std.specs.Option.{option_map};
+ghost use Rattle.mix_word.specs.Instruction.{number_text};
 ghost use Rattle.mix_session.specs.Differences.{held_text};
-ghost use Rattle.mix_dap.specs.Value.{cell_name, word_value, register_value, row_characters, part_value, value_of_part, variable_named, variable_asked, value_asked, worth_text, text_of_worth, evaluated, expression_asked, sentence_of, worth_asked};
+ghost use Rattle.mix_dap.specs.Value.{cell_name, word_value, register_value, row_characters, part_value, value_of_part, variable_named, variable_asked, value_asked, worth_text, text_of_worth, evaluated, expression_asked, number_asked, number_held, number_of_worth, sentence_of, worth_asked};
 
 use crate::deed::{Worth, hovered, worth_of};
 use crate::scope::{part_of, scope_of};
@@ -136,6 +138,51 @@ pub(crate) fn evaluated(
         Some(worth) => worth_text(alloc, session.world(), &worth),
         None => sentence_of(alloc, hovered(request)),
     }
+}
+
+/// The number of what the expression of a request is worth, if it is worth one.
+pub(crate) fn number_asked(
+    alloc: Global,
+    session: &Session,
+    request: &Request,
+) -> Result<Option<String>, Memory>
+    ensures { IfOk result (λ number. option_map string_bytes number ≡ number_asked session.now request.now) }
+{
+    match expression_asked(session, request) {
+        Some(worth) => number_of_worth(alloc, session.world(), &worth),
+        None => Ok(None),
+    }
+}
+
+fn number_of_worth(alloc: Global, world: &World, worth: &Worth) -> Result<Option<String>, Memory>
+    ensures { IfOk result (λ number. option_map string_bytes number ≡ number_of_worth world.now worth.now) }
+{
+    match worth {
+        Worth::Word(word) => Ok(Some(number_text(alloc, *word)?)),
+        Worth::Held(part) => number_held(alloc, world, *part),
+    }
+}
+
+// The number of what a part holds, if it is a word or a number.
+fn number_held(alloc: Global, world: &World, part: Part) -> Result<Option<String>, Memory>
+    ensures { IfOk result (λ number. option_map string_bytes number ≡ number_held world.now part) }
+{
+    match part {
+        Part::Register(register) => Ok(Some(number_text(alloc, world.register(register))?)),
+        Part::Loc => Ok(Some(format!(in alloc; "{}", world.loc())?)),
+        Part::Clock => Ok(Some(format!(in alloc; "{}", world.clock())?)),
+        Part::Cell(place) => Ok(Some(number_text(alloc, world.cell(place))?)),
+        Part::Over | Part::Cmp | Part::Unit(_) => Ok(None),
+    }
+}
+
+// The number of a word, with its sign: that of -0 too.
+fn number_text(alloc: Global, word: Word) -> Result<String, Memory>
+    ensures { IfOk result (λ s. string_bytes s ≡ number_text word) }
+{
+    let number = Number(word);
+    let text = format!(in alloc; "{number}")?;
+    Ok(text)
 }
 
 fn sentence_of(alloc: Global, operation: Option<Operation>) -> Result<String, Memory>

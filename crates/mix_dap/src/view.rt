@@ -5,13 +5,17 @@ ghost use Rattle.serde_json.specs.Data.{put, string};
 ghost use Rattle.serde_json.specs.View.{view};
 ghost use Rattle.mix_word.specs.Instruction.{number_text};
 ghost use Rattle.dap_message.specs.Fields.{members_in};
+ghost use Rattle.mix_dap.specs.Given.{given_told};
+ghost use Rattle.mix_dap.specs.List.{Shows};
 ghost use Rattle.mix_dap.specs.View.{put_digits, put_texts, put_word, put_short, put_register, word_shown, part_name};
 
 mod asked;
+mod bundle;
 mod change;
 mod check;
 mod counts;
 mod decoded;
+mod done;
 mod next;
 mod path;
 mod program;
@@ -19,12 +23,15 @@ mod state;
 mod units;
 mod writes;
 
+use crate::fault::Fault;
+use crate::kind::Given;
+use crate::view::bundle::bundle_view;
+use crate::view::check::check_view;
 pub(crate) use change::change_view;
-pub(crate) use check::check_view;
 pub(crate) use counts::counts_view;
-use dap_message::Fields;
+use dap_message::{Fields, Request};
 use mix_machine::{Reg, Word};
-use mix_refused::Memory;
+use mix_refused::{Memory, Refused};
 use mix_session::{Altered, Letters, ShortLetters};
 use mix_word::{Number, Short};
 pub use next::next_law;
@@ -36,6 +43,20 @@ pub(crate) use state::state_view;
 use std::alloc::Global;
 pub(crate) use units::units_view;
 pub(crate) use writes::writes_view;
+
+/// What is asked of a text that the request gives.
+pub(crate) fn given_view(
+    alloc: Global,
+    given: Given,
+    request: &Request,
+) -> Result<Value, Refused<Fault>>
+    ensures { Shows (given_told given request.now) result }
+{
+    match given {
+        Given::Check => check_view(alloc, request),
+        Given::Bundle => bundle_view(alloc, request),
+    }
+}
 
 // A number that may be greater than what a page counts exactly, in decimal digits.
 fn put_digits(alloc: Global, fields: &mut Fields, name: &str, number: u128) -> Result<(), Memory>

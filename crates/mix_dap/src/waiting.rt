@@ -4,17 +4,17 @@ ghost use Rattle.std.specs.Prelude.{◌≡◌, [], IfOk, OnOk};
 ghost use Rattle.mix_dap.specs.Kind.{kind_before};
 ghost use Rattle.mix_dap.specs.Before.{LaunchShows, AskedShows, client_after};
 ghost use Rattle.mix_dap.specs.Capabilities.{unknown_client};
-ghost use Rattle.mix_dap.specs.Check.{checked};
+ghost use Rattle.mix_dap.specs.Given.{given_told};
 ghost use Rattle.mix_dap.specs.Events.{AddsAnswer};
 ghost use Rattle.mix_dap.specs.Replies.{answer_message};
 
 use crate::capabilities::{Client, capabilities};
 use crate::event::tell_event;
 use crate::fault::{Fault, refuse};
-use crate::kind::{Kind, kind_before};
+use crate::kind::{Given, Kind, kind_before};
 use crate::launch::{Library, Texts, texts_of};
 use crate::list::nothing;
-use crate::view::check_view;
+use crate::view::given_view;
 use dap_message::{Outbox, Request};
 use mix_refused::{Memory, Refused};
 use serde_json::Value;
@@ -74,8 +74,8 @@ impl Waiting {
                 Ok(Asked::Answered)
             }
             Kind::Launch => self.launch(library, request, out),
-            Kind::Check => {
-                self.check(request, out)?;
+            Kind::Given(given) => {
+                self.tell_given(given, request, out)?;
                 Ok(Asked::Answered)
             }
             Kind::Disconnect => {
@@ -120,10 +120,10 @@ impl Waiting {
     }
 
     #[tactic(auto, using(crate::proofs::EventLemmas::answering))]
-    fn check(&self, request: &Request, out: &mut Outbox) -> Result<(), Memory>
-        ensures { OnOk result (AddsAnswer (answer_message request.now (checked request.now)) [] out.old out.new) }
+    fn tell_given(&self, given: Given, request: &Request, out: &mut Outbox) -> Result<(), Memory>
+        ensures { OnOk result (AddsAnswer (answer_message request.now (given_told given request.now)) [] out.old out.new) }
     {
-        match check_view(self.alloc, request) {
+        match given_view(self.alloc, given, request) {
             Ok(body) => out.reply(request, body),
             Err(Refused::Fault(fault)) => refuse(self.alloc, request, fault, out),
             Err(Refused::Memory) => Err(Memory),

@@ -15,7 +15,7 @@ use crate::event::tell_event;
 use crate::fault::Fault;
 use crate::kind::Kind;
 use crate::list::nothing;
-use crate::view::check_view;
+use crate::view::given_view;
 use dap_message::{Outbox, Request};
 use mix_refused::{Memory, Refused};
 
@@ -45,8 +45,8 @@ impl Adapter {
                 out.reply(request, body)?;
                 Ok(Then::Wait)
             }
-            Kind::Check => {
-                let body = check_view(self.alloc, request)?;
+            Kind::Given(given) => {
+                let body = given_view(self.alloc, given, request)?;
                 out.reply(request, body)?;
                 Ok(Then::Wait)
             }

@@ -4,12 +4,12 @@ ghost use Rattle.std.specs.Prelude.{◌≡◌, IfOk, OnOk, string_bytes};
 ghost use Rattle.std.specs.Option.{option_map};
 ghost use Rattle.dap_message.specs.Fields.{members_in};
 ghost use Rattle.mix_dap.specs.Runs.{is_limit};
-ghost use Rattle.mix_dap.specs.Stopped.{fault_at, put_text, text_of};
+ghost use Rattle.mix_dap.specs.Stopped.{fault_at, fault_in, put_text, text_of};
 
 use dap_message::Fields;
 use mix_machine::MixFault;
 use mix_refused::Memory;
-use mix_session::End;
+use mix_session::{Answer, End};
 use std::alloc::Global;
 
 /// The text of a stop, where it has one.
@@ -53,5 +53,22 @@ pub(crate) fn fault_at(end: End) -> Option<MixFault>
     match end {
         End::Fault(fault) => Some(fault),
         End::Halt | End::Until(_) | End::Break | End::Arrived | End::Limit | End::Start => None,
+    }
+}
+
+/// The fault that has ended the steps of an answer, if one has.
+pub(crate) fn fault_in(answer: Answer) -> Option<MixFault>
+    ensures { result ≡ fault_in answer }
+{
+    match answer {
+        Answer::Ran(_, end) | Answer::Traced(_, end) => fault_at(end),
+        Answer::Nothing
+        | Answer::Back(_)
+        | Answer::BackUntil(_)
+        | Answer::Forth(_)
+        | Answer::ForthUntil(_)
+        | Answer::Done
+        | Answer::Shows(_)
+        | Answer::Refused(_) => None,
     }
 }

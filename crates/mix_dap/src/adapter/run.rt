@@ -8,6 +8,7 @@ ghost use Rattle.mix_dap.specs.declared.adapter.Then.TheVariants as then;
 
 use crate::adapter::legs::run_legs;
 use crate::adapter::{Adapter, Then, Way};
+use crate::launch::Opening;
 use dap_message::Outbox;
 use mix_refused::Memory;
 
@@ -19,15 +20,16 @@ impl Adapter {
         ensures session { self.new.session ≡ self.old.session }
         ensures fault { self.new.fault ≡ None }
         ensures printed { self.new.printed ≡ self.old.printed }
-        ensures tells { OnOk result (AddsEvents (beginning self.old.stops) out.old out.new) }
-        ensures later { IfOk result (λ later. later ≡ begun self.old.stops) }
+        ensures tells { OnOk result (AddsEvents (beginning self.old.opening) out.old out.new) }
+        ensures later { IfOk result (λ later. later ≡ begun self.old.opening) }
     {
         self.fault = None;
-        if self.stops {
-            self.stopped("entry", None, out)?;
-            Ok(Then::Wait)
-        } else {
-            Ok(Then::Run(Way::Forth(None)))
+        match self.opening {
+            Opening::Stops => {
+                self.stopped("entry", None, out)?;
+                Ok(Then::Wait)
+            }
+            Opening::Runs | Opening::Free => Ok(Then::Run(Way::Forth(None))),
         }
     }
 

@@ -5,13 +5,15 @@ ghost use Rattle.serde_json.specs.View.{view};
 ghost use Rattle.mix_dap.specs.Answer.{shown_of};
 ghost use Rattle.mix_dap.specs.List.{Shows};
 ghost use Rattle.mix_dap.specs.Look.{exception_of, exception_shown};
-ghost use Rattle.mix_dap.specs.Points.{points_after, points_told};
+ghost use Rattle.mix_dap.specs.Points.{none_set, points_after, points_told};
+ghost use Rattle.mix_dap.specs.Reaction.{points_answer, points_set};
 
 use crate::adapter::Adapter;
 use crate::completions::completions;
 use crate::disassembly::disassemble;
 use crate::fault::Fault;
 use crate::kind::{Look, Target};
+use crate::launch::Opening;
 use crate::look::{Name, put_exception, scopes, stack_trace, threads};
 use crate::memory::read_memory;
 use crate::points::{breakpoint_locations, never};
@@ -62,8 +64,19 @@ impl Adapter {
         }
     }
 
-    // Breakpoints in place of those that stand; nothing else is altered. None is refused.
+    // Breakpoints in place of those that stand, unless the program is not debugged; nothing else is altered. None is refused.
     pub(crate) fn set_points(&mut self, target: Target, request: &Request) -> Result<Value, Memory>
+        ensures stand { OnOk result (self.new ≡ record self.old { points = points_set self.old.opening target request.now self.old }) }
+        ensures same { OnErr result (self.new ≡ self.old) }
+        ensures told { IfOk result (λ v. view v ≡ points_answer self.old.opening target request.now self.old) }
+    {
+        match self.opening {
+            Opening::Stops | Opening::Runs => self.replace_points(target, request),
+            Opening::Free => none_set(self.alloc, target, request),
+        }
+    }
+
+    fn replace_points(&mut self, target: Target, request: &Request) -> Result<Value, Memory>
         ensures stand { OnOk result (self.new ≡ record self.old { points = points_after target self.old.session (string_bytes self.old.name) self.old.client.first request.now self.old.points }) }
         ensures same { OnErr result (self.new ≡ self.old) }
         ensures told { IfOk result (λ v. view v ≡ points_told target self.old.session (string_bytes self.old.name) self.old.client.first request.now) }
@@ -78,8 +91,21 @@ impl Adapter {
             Target::Instructions => { self.points.set_instructions(alloc, &self.session, request) }
             Target::Data => self.points.set_data(alloc, &self.session, request),
             Target::Exceptions => self.points.set_filters(alloc, request),
-            Target::Nothing => never(alloc, "no such function", request),
+            Target::Nothing => never(alloc, "no such function", request, "breakpoints"),
         }
+    }
+}
+
+// That none is set on a program that is not debugged.
+fn none_set(alloc: Global, target: Target, request: &Request) -> Result<Value, Memory>
+    ensures { IfOk result (λ v. view v ≡ none_set target request.now) }
+{
+    match target {
+        Target::Lines | Target::Instructions | Target::Data => {
+            never(alloc, "not debugged", request, "breakpoints")
+        }
+        Target::Exceptions => never(alloc, "not debugged", request, "filters"),
+        Target::Nothing => never(alloc, "no such function", request, "breakpoints"),
     }
 }
 

@@ -6,6 +6,7 @@ ghost use Rattle.std.specs.Option.{option_map};
 ghost use Rattle.serde_json.specs.View.{view};
 ghost use Rattle.mix_session.specs.Conflicts.{conflict_text};
 ghost use Rattle.mix_session.specs.Timeline.{world_of};
+ghost use Rattle.mix_dap.specs.Ended.{end_told, fault_told, over_told};
 ghost use Rattle.mix_dap.specs.Events.{AddsEvents, all_areas, invalidated, out_of_date, stopped};
 ghost use Rattle.mix_dap.specs.Output.{all_told, outputs};
 ghost use Rattle.mix_dap.specs.Reacts.{Keeps};
@@ -14,10 +15,12 @@ ghost use Rattle.mix_dap.specs.Stopped.{reason_of, fault_at, out_of_memory, why_
 
 use crate::adapter::ends::{fault_at, is_limit, put_text, text_of};
 use crate::adapter::{Adapter, Way};
+use crate::event::tell_event;
+use crate::launch::Opening;
 use crate::look::THREAD;
 use crate::points::Points;
 use dap_message::{Fields, Outbox};
-use mix_machine::Conflict;
+use mix_machine::{Conflict, MixFault};
 use mix_refused::Memory;
 use mix_session::{End, Session, conflict_text};
 use serde_json::Value;
@@ -46,12 +49,39 @@ impl Adapter {
         ensures fault { self.new.fault ≡ fault_at end }
         ensures printed { OnOk result (self.new.printed ≡ all_told (world_of self.old.session.timeline)) }
         ensures tells { OnOk result (AddsEvents (outputs self.old.printed (world_of self.old.session.timeline)
-            ++ stopped (why_of_run way self.old.points self.old.session.timeline end) ∷ []) out.old out.new) }
+            ++ end_told self.old.opening (Some end) (why_of_run way self.old.points self.old.session.timeline end)) out.old out.new) }
     {
         self.fault = fault_at(end);
         self.printed.tell(self.alloc, self.session.world(), out)?;
-        self.tell_end(way, end, out)?;
+        self.tell_ended(way, end, out)?;
         Ok(())
+    }
+
+    // Tells why the program stops, or that it has ended, if it is not debugged.
+    fn tell_ended(&self, way: Way, end: End, out: &mut Outbox) -> Result<(), Memory>
+        ensures { OnOk result (AddsEvents (end_told self.now.opening (Some end) (why_of_run way self.now.points self.now.session.timeline end)) out.old out.new) }
+    {
+        match self.opening {
+            Opening::Stops | Opening::Runs => self.tell_end(way, end, out),
+            Opening::Free => self.tell_over(way, end, out),
+        }
+    }
+
+    // Tells that a program which is not debugged has ended, if it has.
+    fn tell_over(&self, way: Way, end: End, out: &mut Outbox) -> Result<(), Memory>
+        ensures { OnOk result (AddsEvents (over_told (Some end) (why_of_run way self.now.points self.now.session.timeline end)) out.old out.new) }
+    {
+        match end {
+            End::Halt => tell_event("terminated", out),
+            End::Fault(fault) => {
+                tell_fault(self.alloc, fault, out)?;
+                tell_event("terminated", out)?;
+                Ok(())
+            }
+            End::Until(_) | End::Break | End::Arrived | End::Limit | End::Start => {
+                self.tell_end(way, end, out)
+            }
+        }
     }
 
     // Tells why a run this way stops that has ended so.
@@ -155,6 +185,15 @@ impl Adapter {
             Ok(())
         }
     }
+}
+
+// Tells a fault to the one who runs the program.
+fn tell_fault(alloc: Global, fault: MixFault, out: &mut Outbox) -> Result<(), Memory>
+    ensures { OnOk result (AddsEvents (fault_told fault ∷ []) out.old out.new) }
+{
+    let text = format!(in alloc; "{fault}\n")?;
+    out.output("stderr", text.as_str())?;
+    Ok(())
 }
 
 // Whether a run has ended for a kind of exceptions.

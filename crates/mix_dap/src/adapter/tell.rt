@@ -4,19 +4,22 @@
 ghost use Rattle.std.specs.Prelude.{◌≡◌, [], Ok, IfOk, OnOk};
 ghost use Rattle.std.specs.Str.Lossy.{utf8_lossy};
 ghost use Rattle.mix_session.specs.Timeline.{world_of};
-ghost use Rattle.mix_dap.specs.Answer.{line_body, result_body, value_body};
+ghost use Rattle.mix_dap.specs.Answer.{line_body, result_body, value_body, worth_body};
 ghost use Rattle.mix_dap.specs.Events.{AddsAnswer, invalidated};
 ghost use Rattle.mix_dap.specs.Reaction.{acted, beside, replied, restarted, stepped};
 ghost use Rattle.mix_dap.specs.Reacts.{Answered, Keeps};
 ghost use Rattle.mix_dap.specs.Replies.{answer_message};
 ghost use Rattle.mix_dap.specs.Stopped.{end_of};
+ghost use Rattle.mix_dap.specs.Value.{evaluated, number_asked};
 
+use crate::adapter::bodies::{line_body, put_result, worth_body};
+use crate::adapter::ends::fault_in;
 use crate::adapter::{Adapter, Then, Way};
 use crate::kind::Act;
 use crate::list::nothing;
-use crate::value::{evaluated, value_asked, worth_asked};
+use crate::value::{value_asked, worth_asked};
 use dap_message::{Fields, Outbox, Request};
-use mix_machine::Reg;
+use mix_machine::{MixFault, Reg};
 use mix_refused::Memory;
 use mix_session::{Answer, End};
 
@@ -74,8 +77,7 @@ impl Adapter {
                 Ok(Then::Wait)
             }
             Act::Evaluate => {
-                let text = evaluated(self.alloc, &self.session, request)?;
-                self.tell_result(text.as_str(), request, out)?;
+                self.tell_worth(request, out)?;
                 Ok(Then::Wait)
             }
         }
@@ -121,29 +123,35 @@ impl Adapter {
     {
         self.fault = None;
         let text = self.session.text(&answer)?;
-        self.tell_reply(line, text.as_slice(), request, out)?;
+        self.tell_reply(line, text.as_slice(), fault_in(answer), request, out)?;
         self.printed.tell(self.alloc, self.session.world(), out)?;
         self.invalidated(out)?;
         Ok(Then::Wait)
     }
 
-    // A line of the script, and its reply.
+    // A line of the script, its reply, and the fault that has ended its steps.
     fn tell_reply(
         &self,
         line: &[u8],
         text: &[u8],
+        fault: Option<MixFault>,
         request: &Request,
         out: &mut Outbox,
     ) -> Result<(), Memory>
-        ensures { OnOk result (AddsAnswer (answer_message request.now (Ok (line_body (utf8_lossy line.now) (utf8_lossy text.now)))) [] out.old out.new) }
+        ensures { OnOk result (AddsAnswer (answer_message request.now (Ok (line_body (utf8_lossy line.now) (utf8_lossy text.now) fault))) [] out.old out.new) }
     {
-        let line = String::from_utf8_lossy(self.alloc, line)?;
-        let text = String::from_utf8_lossy(self.alloc, text)?;
-        let mut body = Fields::new(self.alloc);
-        body.text("line", line.as_str())?;
-        body.text("result", text.as_str())?;
-        body.number("variablesReference", 0)?;
-        out.reply(request, body.done())?;
+        let body = line_body(self.alloc, line, text, fault)?;
+        out.reply(request, body)?;
+        Ok(())
+    }
+
+    // What an expression is worth, and the number of it.
+    fn tell_worth(&self, request: &Request, out: &mut Outbox) -> Result<(), Memory>
+        ensures { OnOk result (AddsAnswer (answer_message request.now
+            (Ok (worth_body (evaluated self.now.session request.now) (number_asked self.now.session request.now)))) [] out.old out.new) }
+    {
+        let body = worth_body(self.alloc, &self.session, request)?;
+        out.reply(request, body)?;
         Ok(())
     }
 
@@ -164,8 +172,7 @@ impl Adapter {
         ensures { OnOk result (AddsAnswer (answer_message request.now (Ok (result_body text.now))) [] out.old out.new) }
     {
         let mut body = Fields::new(self.alloc);
-        body.text("result", text)?;
-        body.number("variablesReference", 0)?;
+        put_result(&mut body, text)?;
         out.reply(request, body.done())?;
         Ok(())
     }

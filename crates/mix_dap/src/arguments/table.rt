@@ -6,7 +6,7 @@ ghost use Rattle.mix_dap.specs.Arguments.{arguments_of, members_of};
 use crate::arguments::Argument::{Cells, List, One, Source};
 use crate::arguments::Member::{May, Needs};
 use crate::arguments::{Argument, ArgumentName as Name, Entry, Form, Member};
-use crate::kind::{Act, Kind, Look, Target};
+use crate::kind::{Act, Given, Kind, Look, Target};
 
 // A whole number, zero or more.
 const ANY: Form = Form::Natural(u64::MAX);
@@ -21,8 +21,9 @@ pub(crate) fn arguments_of(kind: Kind) -> &'static [Argument]
 {
     match kind {
         Kind::Initialize => &[One(May(Name::LinesStartAt1, Form::Flag)), One(May(Name::ColumnsStartAt1, Form::Flag)), One(May(Name::SupportsInvalidatedEvent, Form::Flag))],
-        Kind::Launch => &[One(May(Name::Program, Form::Text)), One(May(Name::SourceText, Form::Text)), One(May(Name::Devices, Form::Text)), One(May(Name::DevicesText, Form::Text)), One(May(Name::Cards, Form::Text)), One(May(Name::CardsText, Form::Text)), One(May(Name::StopOnEntry, Form::Flag))],
-        Kind::Check => &[One(Needs(Name::Source, Form::Text))],
+        Kind::Launch => &[One(May(Name::Program, Form::Text)), One(May(Name::SourceText, Form::Text)), One(May(Name::Devices, Form::Text)), One(May(Name::DevicesText, Form::Text)), One(May(Name::Cards, Form::Text)), One(May(Name::CardsText, Form::Text)), One(May(Name::Typewriter, Form::Text)), One(May(Name::TypewriterText, Form::Text)), One(May(Name::StopOnEntry, Form::Flag)), One(May(Name::NoDebug, Form::Flag))],
+        Kind::Given(Given::Check) => &[One(Needs(Name::Source, Form::Text))],
+        Kind::Given(Given::Bundle) => &[One(Needs(Name::Text, Form::Text))],
         Kind::Points(Target::Lines) => &[Source, List(Name::Breakpoints, Entry::Line)],
         Kind::Points(Target::Instructions) => &[List(Name::Breakpoints, Entry::Instruction)],
         Kind::Points(Target::Data) => &[List(Name::Breakpoints, Entry::Part)],
@@ -42,7 +43,7 @@ pub(crate) fn arguments_of(kind: Kind) -> &'static [Argument]
         Kind::Look(Look::Units) => &[One(May(Name::Unit, ANY)), One(May(Name::Block, ANY))],
         Kind::Look(Look::Change) => &[One(Needs(Name::Number, ANY)), One(May(Name::Field, FIELD)), One(May(Name::Conflict, Form::Flag))],
         Kind::Look(Look::Next) => &[One(May(Name::Field, FIELD))],
-        Kind::Look(Look::Writes) => &[One(Needs(Name::Part, Form::Text)), One(May(Name::Count, Form::Natural(1_000))), One(May(Name::Until, ANY))],
+        Kind::Look(Look::Writes) => &[One(Needs(Name::Part, Form::Text)), One(May(Name::Count, Form::Natural(1_000))), One(May(Name::Until, ANY)), One(May(Name::Total, Form::Flag))],
         Kind::Act(Act::Goto) => &[One(Needs(Name::TargetId, ANY))],
         Kind::Act(Act::SetVariable) => &[One(Needs(Name::VariablesReference, ANY)), One(Needs(Name::Name, Form::Text)), One(Needs(Name::Value, Form::Text))],
         Kind::Act(Act::SetExpression) => &[One(Needs(Name::Expression, Form::Text)), One(Needs(Name::Value, Form::Text))],

@@ -1,6 +1,6 @@
 //! Breakpoints by their kinds: where each that is asked for stands, and how it is told.
 
-ghost use Rattle.std.specs.Prelude.{◌≡◌, ◌++◌, IfOk, OnOk, Option, None, codes};
+ghost use Rattle.std.specs.Prelude.{◌≡◌, ◌++◌, IfOk, OnOk, Option, None};
 ghost use Rattle.std.specs.Option.{option_to_list};
 ghost use Rattle.std.specs.List.{filter_map};
 ghost use Rattle.serde_json.specs.Data.{Data};
@@ -204,11 +204,16 @@ impl PointKind for Unset {
     }
 }
 
-/// The answer to a request for breakpoints of which none stands, for this reason.
-pub(crate) fn never(alloc: Global, why: &'static str, request: &Request) -> Result<Value, Memory>
-    ensures { IfOk result (λ v. view v ≡ answer_by (none_told why.now) (entries_of request.now (codes "breakpoints"))) }
+/// The answer to a request for breakpoints in the list of a name of which none stands, for this reason.
+pub(crate) fn never(
+    alloc: Global,
+    why: &'static str,
+    request: &Request,
+    name: &str,
+) -> Result<Value, Memory>
+    ensures { IfOk result (λ v. view v ≡ answer_by (none_told why.now) (entries_of request.now name.now)) }
 {
-    let (_, told) = set_all(alloc, &Unset { why }, request, "breakpoints")?;
+    let (_, told) = set_all(alloc, &Unset { why }, request, name)?;
     Ok(told)
 }
 

@@ -1,21 +1,22 @@
 //! `mix/check`: what there is to say of a text.
 
-ghost use Rattle.std.specs.Prelude.{◌≡◌, IfOk, OnOk, map};
+ghost use Rattle.std.specs.Prelude.{◌≡◌, ◌++◌, IfOk, OnOk, map, string_bytes};
+ghost use Rattle.std.specs.Option.{option_map};
 ghost use Rattle.serde_json.specs.View.{view};
 ghost use Rattle.dap_message.specs.Fields.{members_in};
-ghost use Rattle.mix_dap.specs.Check.{check_of, checked, diagnostic_shown, put_columns, put_meaning};
+ghost use Rattle.mix_dap.specs.Check.{check_of, checked, diagnostic_shown, no_halt_at, no_halt_shown, put_columns, put_meaning, put_remedy};
 ghost use Rattle.mix_dap.specs.List.{Shows};
 
 use crate::fault::Fault;
 use crate::list::{add, list_alone};
 use dap_message::{Fields, Request};
-use mix_check::{Checked, code, severity};
+use mix_check::{Checked, code, no_halt, no_halt_text, severity};
 use mix_refused::{Memory, Refused};
 use mixal_asm::{Diagnostic, diagnose};
 use serde_json::Value;
 use std::alloc::Global;
 
-/// The faults and the warnings of the text of a request, as `mixrev check --json` gives them.
+/// The faults and the warnings of the text of a request, as `mixrev check --json` gives them, and whether a HLT is missing.
 pub(crate) fn check_view(alloc: Global, request: &Request) -> Result<Value, Refused<Fault>>
     ensures { Shows (checked request.now) result }
 {
@@ -29,8 +30,33 @@ fn check(alloc: Global, source: &[u8]) -> Result<Value, Memory>
     ensures { IfOk result (λ v. view v ≡ check_of source.now) }
 {
     let diagnostics = diagnose(alloc, source)?;
-    let list = all_shown(alloc, source, &diagnostics)?;
+    let mut list = all_shown(alloc, source, &diagnostics)?;
+    add_no_halt(alloc, &mut list, no_halt(source, &diagnostics))?;
     list_alone(alloc, "diagnostics", list)
+}
+
+fn add_no_halt(alloc: Global, list: &mut Vec<Value>, line: Option<u64>) -> Result<(), Memory>
+    ensures { OnOk result (map view list.new.items ≡ map view list.old.items ++ no_halt_shown line) }
+{
+    match line {
+        None => Ok(()),
+        Some(line) => {
+            add(list, no_halt_at(alloc, line)?)?;
+            Ok(())
+        }
+    }
+}
+
+// A program without a HLT, whose last instruction is in a line.
+fn no_halt_at(alloc: Global, line: u64) -> Result<Value, Memory>
+    ensures { IfOk result (λ v. view v ≡ no_halt_at line) }
+{
+    let mut body = Fields::new(alloc);
+    body.number("line", line)?;
+    body.text("severity", "warning")?;
+    body.text("code", "no-halt")?;
+    body.text("text", no_halt_text())?;
+    Ok(body.done())
 }
 
 fn all_shown(alloc: Global, source: &[u8], diagnostics: &[Diagnostic]) -> Result<Vec<Value>, Memory>
@@ -59,7 +85,17 @@ fn diagnostic_shown(
     body.number("line", u64::from(diagnostic.line))?;
     put_columns(&mut body, source.columns(diagnostic))?;
     put_meaning(alloc, &mut body, source, diagnostic)?;
+    put_remedy(&mut body, source.remedy(alloc, diagnostic)?)?;
     Ok(body.done())
+}
+
+fn put_remedy(body: &mut Fields, remedy: Option<String>) -> Result<(), Memory>
+    ensures { OnOk result (members_in body.new ≡ put_remedy (option_map string_bytes remedy) (members_in body.old)) }
+{
+    match remedy {
+        Some(text) => body.text("remedy", text.as_str()),
+        None => Ok(()),
+    }
 }
 
 fn put_columns(body: &mut Fields, columns: Option<(u64, u64)>) -> Result<(), Memory>

@@ -17,6 +17,7 @@ use crate::fault::Fault;
 use crate::look::put_exception;
 use crate::view::change::{Worlds, change_between};
 use crate::view::decoded::field_asked;
+use crate::view::done::{change_kind, put_instruction_here};
 use dap_message::{Fields, Request};
 use mix_machine::{Change, MixFault, World};
 use mix_refused::{Memory, Refused};
@@ -79,6 +80,8 @@ fn next_refused(alloc: Global, number: u64, world: &World, fault: MixFault) -> R
     body.number("location", u64::from(world.loc()))?;
     body.text("text", change_text(alloc, &Change::Step, world)?.as_str())?;
     put_exception(alloc, &mut body, fault)?;
+    body.text("kind", change_kind(Change::Step))?;
+    put_instruction_here(alloc, &mut body, world)?;
     Ok(body.done())
 }
 

@@ -5,10 +5,10 @@ ghost use Rattle.serde_json.specs.View.{view};
 ghost use Rattle.mix_session.specs.Keyword.{indicator_name};
 ghost use Rattle.dap_message.specs.Fields.{members_in};
 ghost use Rattle.mix_dap.specs.List.{Shows};
-ghost use Rattle.mix_dap.specs.Writes.{held_shown, put_mark, write_shown, writes_shown, up_to, writes_asked};
+ghost use Rattle.mix_dap.specs.Writes.{held_shown, put_mark, put_total, write_shown, writes_shown, up_to, writes_asked};
 
 use crate::fault::Fault;
-use crate::list::{add, list_alone};
+use crate::list::add;
 use crate::view::{put_digits, put_register, word_shown};
 use crate::watch::part_named;
 use dap_message::{Fields, Request};
@@ -41,22 +41,47 @@ pub(crate) fn writes_view(
     }
     let done = session.changes().len() as u64;
     let until = request.number("until").unwrap_or(done);
-    Ok(writes_shown(alloc, session, part, until as usize, most as usize)?)
+    let total = request.flag("total");
+    Ok(writes_shown(alloc, session, part, until as usize, most as usize, total)?)
 }
 
+// The last of the changes that altered a part, and how many there are, if that is asked for.
 fn writes_shown(
     alloc: Global,
     session: &Session,
     part: Part,
     until: usize,
     most: usize,
+    total: bool,
 ) -> Result<Value, Memory>
-    ensures { IfOk result (λ v. view v ≡ writes_shown session.now.timeline part until most) }
+    ensures { IfOk result (λ v. view v ≡ writes_shown session.now.timeline part until most total) }
 {
     let written = part;
     let writes = session.writes(alloc, part, until, most)?;
     let list = all_shown(alloc, &written, &writes)?;
-    list_alone(alloc, "writes", list)
+    let mut body = Fields::new(alloc);
+    body.list("writes", list)?;
+    put_total(alloc, &mut body, total, session, written, until)?;
+    Ok(body.done())
+}
+
+#[tactic(auto, using(crate::proofs::WritesLemmas::whole_writes))]
+fn put_total(
+    alloc: Global,
+    body: &mut Fields,
+    asked: bool,
+    session: &Session,
+    part: Part,
+    until: usize,
+) -> Result<(), Memory>
+    ensures { OnOk result (members_in body.new ≡ put_total asked session.now.timeline part until (members_in body.old)) }
+{
+    if asked {
+        let writes = session.writes(alloc, part, until, until)?;
+        body.number("total", writes.len() as u64)
+    } else {
+        Ok(())
+    }
 }
 
 fn all_shown(alloc: Global, part: &Part, writes: &[Write]) -> Result<Vec<Value>, Memory>

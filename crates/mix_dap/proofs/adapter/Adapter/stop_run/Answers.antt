@@ -1,12 +1,13 @@
 -- The rows, and then why.
-use Rattle.std.proofs.Common.{[], ◌∷◌}
+use Rattle.std.proofs.Common.{Some}
 use Rattle.mix_session.specs.Timeline.{world_of}
-use Rattle.mix_dap.specs.Events.{stopped}
+use Rattle.mix_dap.specs.Ended.{end_told}
 use Rattle.mix_dap.specs.Runs.{why_of_run}
 use Rattle.mix_dap.proofs.EventLemmas.{rows-then}
 use Rattle.mix_dap.proofs.adapter.Adapter.stop_run.Goals as goal
 
 pub returns-clause-tells : goal.returns-clause-tells
 returns-clause-tells c =
-    rows-then c.args.self.now.printed (world_of c.args.self.now.session.timeline) c.world.result.now (stopped (why_of_run c.args.way c.args.self.now.points c.args.self.now.session.timeline c.args.end) ∷ []) c.args.out.now c.tell.new.out
-    c.tell_end.new.out c.world.ensures c.in_ok-tell.ensures.prints c.in_ok-tell_end.ensures
+    rows-then c.args.self.now.printed (world_of c.args.self.now.session.timeline) c.world.result.now
+    (end_told c.args.self.now.opening (Some c.args.end) (why_of_run c.args.way c.args.self.now.points c.args.self.now.session.timeline c.args.end)) c.args.out.now c.tell.new.out
+    c.tell_ended.new.out c.world.ensures c.in_ok-tell.ensures.prints c.in_ok-tell_ended.ensures

@@ -16,9 +16,9 @@ returns-clause-reacts c = (
   search rules,
   search rules,
   search rules,
-  answer-then (answer_message c.args.request.now (Ok null)) (outputs c.args.self.now.printed (world_of c.args.self.now.session.timeline) ++ beginning c.args.self.now.stops)
+  answer-then (answer_message c.args.request.now (Ok null)) (outputs c.args.self.now.printed (world_of c.args.self.now.session.timeline) ++ beginning c.args.self.now.opening)
       c.args.out.now c.reply.new.self c.begin.new.out
       (answer-with c.args.request.now _ null c.args.out.now c.reply.new.self (search rules) c.in_ok-reply.ensures.told)
-      (rows-then c.args.self.now.printed (world_of c.args.self.now.session.timeline) c.world.result.now (beginning c.args.self.now.stops) c.reply.new.self c.tell.new.out
+      (rows-then c.args.self.now.printed (world_of c.args.self.now.session.timeline) c.world.result.now (beginning c.args.self.now.opening) c.reply.new.self c.tell.new.out
       c.begin.new.out c.world.ensures c.in_ok-tell.ensures.prints c.in_ok-then.ensures.tells),
 )

@@ -19,8 +19,8 @@ returns-clause-reacts c =
       refl,
       search rules,
       refl,
-      rw same
-          (answer-then (answer_message c.args.request.now (Ok (line_body (utf8_lossy c.args.line.now) (utf8_lossy c.as_slice.result.now))))
+      rw (same, ← c.fault_in.ensures)
+          (answer-then (answer_message c.args.request.now (Ok (line_body (utf8_lossy c.args.line.now) (utf8_lossy c.as_slice.result.now) c.fault_in.result)))
           (outputs c.args.self.now.printed (world_of c.args.self.now.session.timeline) ++ invalidated c.args.self.now.client) c.args.out.now c.tell_reply.new.out c.invalidated.new.out
           c.in_ok-tell_reply.ensures
           (rows-then c.args.self.now.printed (world_of c.args.self.now.session.timeline) c.world.result.now (invalidated c.args.self.now.client) c.tell_reply.new.out c.tell.new.out
