@@ -187,7 +187,8 @@ A session whose input is a terminal; the echo and the prompts are left out.
   stderr: Type a command, such as step, back 1 or show regs; help lists them all, quit ends.
   stderr: step, run, trace     go on, step by step; run stops at breakpoints, trace shows each step
   stderr: back, forth, goto    take changes back, do them again, go to a numbered state
-  stderr: set, break, clear    change the machine, set a breakpoint, take one away
+  stderr: set                  changes the machine
+  stderr: break, clear         set a breakpoint, take one away; finish goes on to where a subroutine returns
   stderr: show                 shows the machine, its code, its past, counts
   stderr: quit                 ends the session
   stderr: A command may be shortened: s is step, b break, ba back, u until; n is step too, c is run.
@@ -207,7 +208,8 @@ A session whose input is a terminal; the echo and the prompts are left out.
   stderr: After a halt, step and run without a number do nothing. rs takes one step back.
   stderr: run N            does N steps, 1 to 1000000, fewer if a halt, a fault or a breakpoint comes
   stderr: run N until COND also stops when a step reaches COND, and shows that step
-  stderr: advance E is run until loc E.
+  stderr: advance E is run until loc E; finish is that with the location that rJ has: where the subroutine
+  stderr: returns that was entered last, until another JMP is done.
   stderr: trace            does one step and shows what it altered
   stderr: trace N          does N steps as step N, and shows each
   stderr: back N           takes the last N changes back
@@ -226,8 +228,12 @@ A session whose input is a terminal; the echo and the prompts are left out.
   stderr: Each is a change, and can be taken back.
   stderr: break E          gives cell E a breakpoint, where run stops; clear E takes it away
   stderr: break line N     the same for the first line of the source, from line N on, that gives a word
+  stderr: clear all takes all away. What you type here is no change, and back takes none of it back: each run
+  stderr: waits for it, as until loc E. In a script, as of mixrev debug SOURCE SCRIPT, it is a change.
   stderr: break E          gives cell E a breakpoint, where run stops; clear E takes it away
   stderr: break line N     the same for the first line of the source, from line N on, that gives a word
+  stderr: clear all takes all away. What you type here is no change, and back takes none of it back: each run
+  stderr: waits for it, as until loc E. In a script, as of mixrev debug SOURCE SCRIPT, it is a change.
   stderr: show regs        the registers, toggle, indicator, location and clock
   stderr: show all         everything in use: registers, cells, breakpoints, units
   stderr: show cells E E   the cells from the first to the second
@@ -297,11 +303,12 @@ A session whose input is a terminal; the echo and the prompts are left out.
   stderr: source FILE      does the lines of FILE, one after the other, as if each were typed here
   stderr: If FILE can't be read, nothing is done. In FILE source itself can't be used.
   stderr: reload           assembles the source again, as it is now, and does there what was done so far
-  stderr: Breakpoints too: break LOOP is at LOOP again, if that has moved. What is watched or displayed stays.
+  stderr: Breakpoints stay, and what is watched or displayed: break LOOP is at LOOP again, if that has moved.
   stderr: If the source is refused, the session goes on as it was.
   stderr: step, run, trace     go on, step by step; run stops at breakpoints, trace shows each step
   stderr: back, forth, goto    take changes back, do them again, go to a numbered state
-  stderr: set, break, clear    change the machine, set a breakpoint, take one away
+  stderr: set                  changes the machine
+  stderr: break, clear         set a breakpoint, take one away; finish goes on to where a subroutine returns
   stderr: show                 shows the machine, its code, its past, counts
   stderr: quit                 ends the session
   stderr: A command may be shortened: s is step, b break, ba back, u until; n is step too, c is run.
@@ -340,7 +347,7 @@ Wrong words are answered with the right ones.
   stderr: goto takes a number
   stderr: set takes REG W, cell E W, loc E, over on, over off or cmp L, E, G
   stderr: break takes E, a cell, or line N
-  stderr: clear takes E, a cell, or line N: one at a time; show breaks lists them
+  stderr: clear takes E, a cell, line N or all; show breaks lists them
   stderr: show takes regs, all, cells E E, unit N, code, value W, values, last N, writes COND, diff N,
   stderr: counts, conflicts, clock, breaks, changes or symbols
   stderr: watch takes COND: a register, over, cmp, cell E, unit N, loc E or conflict
@@ -370,7 +377,7 @@ Wrong words are answered with the right ones.
   stderr: watching cell 0 or cell 1 or cell 2 or cell 3 or cell 4 or cell 5
   stderr: watching cell 0 or cell 1 or cell 2 or cell 3 or cell 4 or cell 5 or cell 6
   stderr: watching cell 0 or cell 1 or cell 2 or cell 3 or cell 4 or cell 5 or cell 6 or cell 7
-  stderr: watch takes no more than eight conditions; delete forgets them
+  stderr: no more than eight are watched or are breakpoints; delete forgets those, clear all these
   stderr: 
 
 Commands of gdb and of mixvm: each is refused, whatever follows it, and what to type here is written. Capitals count the same.
@@ -427,7 +434,7 @@ Commands of gdb and of mixvm: each is refused, whatever follows it, and what to 
         3 stderr: a breakpoint has no condition: run until COND stops once, watch COND each time
   $ hints 'cbp 3' cbpa cabp disable
         4 ? C1 no such command
-        4 stderr: clear takes E, a cell, or line N: one at a time; show breaks lists them
+        4 stderr: clear takes E, a cell, line N or all; show breaks lists them
   $ hints 'cbpr A' cbpm cbpc cbpo
         4 ? C1 no such command
         4 stderr: delete forgets what is watched
@@ -437,9 +444,12 @@ Commands of gdb and of mixvm: each is refused, whatever follows it, and what to 
   $ hints stime ptime
         2 ? C1 no such command
         2 stderr: show clock shows the time
-  $ hints finish up down
-        3 ? C1 no such command
-        3 stderr: run until loc E stops at E: print J shows where a subroutine returns to
+  $ hints up down
+        2 ? C1 no such command
+        2 stderr: finish goes on to where the subroutine returns: print J shows where that is
+  $ hints 'finish 1'
+        1 ? C1 no such command
+        1 stderr: finish takes nothing; run until loc E stops at E
   $ hints reverse-finish
         1 ? C1 no such command
         1 stderr: back until loc E goes back to E: the JMP that called

@@ -31,7 +31,7 @@ def test_saved(aside, ran, folder):
            ("sa .", "T4 not opened: .: Is a directory\n"), ("save /dev/full", "T3 write failed: /dev/full: No space left on device\n"),
            ("show all", ""), ("show changes", ""))
     bundle, replies = (folder / "s.mixal").read_text(), output()
-    assert bundle == f"{SOURCE}%DEVICES\n{DECK}%SCRIPT\nstep 2\nback until A\nrun 1000000 until A\nset X 5\nset X 5\nbreak 3\n"
+    assert bundle == f"{SOURCE}%DEVICES\n{DECK}%SCRIPT\nstep 2\nback until A\nrun 1000000 until A\nset X 5\nset X 5\n"
     assert replies.endswith(of_bundle(ran, bundle))
     terminal.said("forth 1")
     terminal.said("save s.mixal")
@@ -101,7 +101,7 @@ def test_reloaded(aside, ran, folder):
     file.write_text(second)
     assert terminal.said("relo") == store(4) and ">  STA 100\n" in terminal.said("list") and terminal.said("save r.mixal") == "saved: r.mixal\n"
     bundle = (folder / "r.mixal").read_text()
-    assert bundle == f"{second}%SCRIPT\nbreak LOOP\nrun 1000000 until cell 100\nstep\nset X 5\n"
+    assert bundle == f"{second}%SCRIPT\nrun 1000000 until cell 100 or loc LOOP\nstep\nset X 5\n"
     file.write_text(" ENTA 5\nX JUMP 3 what\n END\n")
     assert terminal.said("reload") == "changing.mixal:2:3: error: A2 no such operation: JUMP\nX JUMP 3 what\n  ^^^^\n"
     file.unlink()
@@ -109,10 +109,11 @@ def test_reloaded(aside, ran, folder):
            ("source reload.txt", "reload can't be used in a file that is sourced; type it yourself\n"))
     for line in ("show all", "show changes"):
         terminal.said(line)
-    assert output() == "ok\nran 1 to 0001 clock 1: break\nran 1 to 0002 clock 2: limit\nok\n" + of_bundle(ran, bundle)
+    stopped = "      1  0000  ENTA 5               1u  A + 00 00 00 00 00 -> + 00 00 00 00 05\nran 1 to 0001 clock 1: until\n"
+    assert output() == f"{stopped}ran 1 to 0002 clock 2: limit\nok\n" + of_bundle(ran, bundle)
     file.write_text(second.replace("LOOP", "").replace(" END", " JMP LOPP\n END"))
     lost = terminal.said("reload")
-    assert lost.startswith("break LOOP\n? ") and lost.index(": warning: LOPP") < lost.index("reloaded: changing.mixal\n")
+    assert lost.startswith("run 1000000 until cell 100 or loc LOOP\n? ") and lost.index(": warning: LOPP") < lost.index("reloaded: changing.mixal\n")
     assert terminal.end("q\n") == 0 and ran("debug", "a.mixal", given="reload\n").output == "? C1 no such command\n"
 
 

@@ -5,7 +5,7 @@ from test_talk import FOURTH, STORED
 TWELVE = f"+ 00 00 00 00 12 {12:11}"
 A = f'A  {TWELVE}  "    K"\n'
 HALT = "ran 1 to 0004 clock 14: halt\n"
-GOES_ON, SHOWS, BREAKS, CLEARS = "run takes a number", "show takes regs", "break takes E, a cell, or line N", "clear takes E, a cell, or line N"
+GOES_ON, SHOWS, BREAKS, CLEARS = "run takes a number", "show takes regs", "break takes E, a cell, or line N", "clear takes E, a cell, line N or all"
 HELP, BACK = "step, run, trace", "back 1 to 0002 clock 2\n"
 # What is typed after three steps: a part of what is answered, or none where the talk ends.
 FIRST_LINES = [
@@ -14,7 +14,7 @@ FIRST_LINES = [
     ("p clock", "clock 4\n"), ("print cell 100", TWELVE), ("x 100", TWELVE), ("show cell 100", TWELVE), ("p 5+3", f"+ 00 00 00 00 08 {8:11}"), ("p $A", SHOWS),
     ("list", "    4>  HLT\n"), ("l 1", "    1   ENTA 5\n"), ("where", FOURTH), ("show", SHOWS), ("back", "back 1 to 0002 clock 2\n"), ("q", None),
     ("exit", None), ("quit", None), ("?", HELP), ("h", HELP), ("help", HELP), ("set rA 5", "ok\n"), ("set cell 100 5", "ok\n"), ("b 2", "ok\n"),
-    ("break line 3", "ok\n"), ("break FOO", BREAKS), ("goto START", "goto takes a number"), ("clear all", CLEARS), ("show last", STORED),
+    ("break line 3", "ok\n"), ("break FOO", BREAKS), ("goto START", "goto takes a number"), ("clear all", "ok\n"), ("clear", CLEARS), ("finish", HALT), ("finish 2", "finish takes nothing"), ("show last", STORED),
     ("watch A", "watching A\n"), ("watch", "watch takes COND"), ("watch A = 5", "watch takes COND"), ("delete", ""), ("delete 1", "delete takes nothing"),
     ("advance 4", HALT), ("si", HALT), ("stepi", HALT), ("NI", HALT), ("nexti 1", HALT), ("rn", BACK), ("rs", BACK), ("reverse-step", BACK),
     ("reverse-next", BACK), ("run a.mixal", GOES_ON), ("display A", A), ("display $A", "display takes a register"), ("undisplay", ""),

@@ -4,8 +4,9 @@ import pty
 import subprocess
 import termios
 
-# a colour and a title of xterm; a sequence that begins with the byte 9B, alone and as a character; letters of other alphabets; the signs that turn
-# the direction of a text, and their neighbours; a tab
+# a colour and a title of xterm; a sequence that begins with the byte 9B, alone and as a
+# character; letters of other alphabets; the signs that turn the direction of a text, and their
+# neighbours; a tab
 REMARK = b"\xe2\x80\xae \xe2\x81\xa6 \xe2\x80\xa9\xe2\x81\xaa \x1b[31m \x1b]0;owned\x07 \x9b1m \xc2\x9b2m \xc3\x9f \xce\x94 \xe2\x82\xac \xf0\x9f\x9a\xb2\t|\x7f"
 SHOWN = "\xe2\x80? \xe2\x81? \u2029\u206a ?[31m ?]0;owned? ?1m \xc2?2m \xdf \u0394 \u20ac \U0001f6b2\t|?"
 

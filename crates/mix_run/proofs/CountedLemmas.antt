@@ -84,10 +84,10 @@ pub counted-made : (format : TableFormat) (options : PrintOptions) (s0 s : Sessi
     (answer : PrintAnswer) (p : ProgramValue) → s.program ≡ s0.program → s.timeline ≡ after (counted_steps options.steps s0.timeline)
     → end ≡ end_of (counted_steps options.steps s0.timeline).answer → stepped.end ≡ end → stepped.conflicts ≡ counted [] → w ≡ world_of s.timeline → p ≡ s.program
     → text ≡ counts_table format s.program s.timeline → answer ≡ Ran (came_to p stepped.end w stepped.conflicts) → deck ≡ kept_if options.keep w
-    → DrawnIf options.map s.program s.timeline [] map
+    → DrawnIf options.map s.program s.timeline map
     → let run = counted_run format options.steps s0 in
     (text ≡ run.bytes) × (answer ≡ Ran (ran_to s0.program run)) × (deck ≡ kept_if options.keep run.world)
-    × DrawnIf options.map s0.program (after (counted_steps options.steps s0.timeline)) [] map
+    × DrawnIf options.map s0.program (after (counted_steps options.steps s0.timeline)) map
 unfolding counted_run
 counted-made format options s0 s end stepped w text deck map answer p same steps ends is none stands here table leads keeps drawn = (
   table ∙ rw (same, steps) refl,
@@ -101,9 +101,9 @@ pub counted-leaves : (format : TableFormat) (options : PrintOptions) (program : 
     (a b : Option (List ℕ)) (n m : ℕ) → s0 ≡ opened program units
     → (let run = counted_run format options.steps s0 in
     (text ≡ run.bytes) × (printed.answer ≡ Ran (ran_to s0.program run)) × (printed.deck.items ≡ kept_if options.keep run.world)
-    × DrawnIf options.map s0.program (after (counted_steps options.steps s0.timeline)) [] printed.map.items)
+    × DrawnIf options.map s0.program (after (counted_steps options.steps s0.timeline)) printed.map.items)
     → Appends a b text → m ≡ n
-    → Leaves (counted_outcome format options program units) (DrawnIf options.map program (after (counted_steps options.steps (opened program units).timeline)) [])
+    → Leaves (counted_outcome format options program units) (DrawnIf options.map program (after (counted_steps options.steps (opened program units).timeline)))
     (Ok printed) a n b m
 unfolding counted_outcome opened
 counted-leaves format options program units s0 text printed a b n m opens made told same =
@@ -114,9 +114,9 @@ pub counted-begun : (format : TableFormat) (options : PrintOptions) (program : P
     (a b : Option (List ℕ)) (n m : ℕ) → s0 ≡ opened program units
     → (let run = counted_run format options.steps s0 in
     (text ≡ run.bytes) × (printed.answer ≡ Ran (ran_to s0.program run)) × (printed.deck.items ≡ kept_if options.keep run.world)
-    × DrawnIf options.map s0.program (after (counted_steps options.steps s0.timeline)) [] printed.map.items)
+    × DrawnIf options.map s0.program (after (counted_steps options.steps s0.timeline)) printed.map.items)
     → AppendsFront a b text → m ≡ n + 1
-    → Leaves (counted_outcome format options program units) (DrawnIf options.map program (after (counted_steps options.steps (opened program units).timeline)) [])
+    → Leaves (counted_outcome format options program units) (DrawnIf options.map program (after (counted_steps options.steps (opened program units).timeline)))
     (Err faults.Write) a n b m
 unfolding counted_outcome opened
 counted-begun format options program units s0 text printed a b n m opens made begun more = let here = rw opens at made in (rw here.0 at begun, more)

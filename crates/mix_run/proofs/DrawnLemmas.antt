@@ -1,6 +1,5 @@
 -- A map is that of the steps of a session, and what is printed beside it is that of the machine which the session begins with.
-use Rattle.std.proofs.Common.{◌≡◌, ◌∙◌, ◌++◌, ◌||◌, ℕ, Bool, true, false, List, [], Option, None, Some, Result, Ok, Err, OnOk, ap, is_some, refl, subst, sym, length, take}
-use Rattle.std.proofs.lemmas.List.{append-nil}
+use Rattle.std.proofs.Common.{◌≡◌, ◌∙◌, ◌++◌, ◌||◌, ℕ, Bool, true, false, List, [], Option, None, Some, Result, Ok, Err, IfOk, ap, arith, is_some, refl, subst, sym, length, take}
 use Rattle.std.specs.Io.KnownBytes.{Appends}
 use Rattle.mixal_asm.specs.Assembly.{assembly}
 use Rattle.mixal_asm.specs.Program.{ProgramValue}
@@ -18,17 +17,17 @@ use Rattle.mix_session.specs.Timeline.{Timeline}
 use Rattle.mix_session.specs.declared.fault.Refusal.{Refusal}
 use Rattle.mix_session.specs.declared.path.Span.{Span}
 use Rattle.mix_run.specs.Counted.{counted_steps}
-use Rattle.mix_run.specs.Drawn.{Drawn, DrawnIf, DrawnProgram, DrawnRun, Draws, is_drawn}
+use Rattle.mix_run.specs.Drawn.{DrawnIf, DrawnProgram, DrawnRun, Draws}
 use Rattle.mix_run.specs.Keep.{kept_if}
-use Rattle.mix_run.specs.Map.{map_text, span_of}
+use Rattle.mix_run.specs.Map.{IsMap, map_text, span_of}
 use Rattle.mix_run.specs.Print.{Run, counted, run_of}
-use Rattle.mix_run.specs.PrintOutput.{Answered, Leaves, PrintOutcome, Prints, answered, bytes_of, came_to, counted_outcome, counts_asked, counts_in, kept_of, outcome_of_run, parts_of, printed_outcome, units_asked}
+use Rattle.mix_run.specs.PrintOutput.{Leaves, PrintOutcome, Prints, answered, came_to, counted_outcome, counts_asked, counts_in, outcome_of_run, parts_of, printed_outcome, units_asked}
 use Rattle.mix_run.specs.StepTable.{part_named, run_told, step_table, table_of}
 use Rattle.mix_run.specs.Writes.{Broken}
+use Rattle.mix_stream.specs.Stream.{CountsFailure}
 use Rattle.mix_run.specs.UnitsRead.{deck_given}
 use Rattle.mix_run.specs.declared.fault.ToolFault.{ToolFault}
 use Rattle.mix_run.specs.declared.fault.ToolFault.TheVariants as faults
-use Rattle.mix_run.specs.declared.print.PrintAnswer.{PrintAnswer}
 use Rattle.mix_run.specs.declared.print.PrintAnswer.TheVariants.{NoPart, Ran}
 use Rattle.mix_run.specs.declared.print.Printed.{Printed}
 use Rattle.mix_run.specs.declared.print.options.AskedTable.{AskedTable}
@@ -44,12 +43,12 @@ use Rattle.mix_run.proofs.Written.{Appends-nothing}
 -- the map of a path
 pub drawn-path : (program p : ProgramValue) (t : Timeline) (counts slice none new : List ℕ) (total : ℕ) (span : Span)
     → total ≡ length t.changes → span ≡ span_of total → IsPath t span counts → p ≡ program → slice ≡ counts
-    → none ≡ [] → new ≡ none ++ map_text p total slice → Drawn program t [] new
+    → none ≡ [] → new ≡ none ++ map_text p total slice → IsMap program t new
 drawn-path program p t counts slice none new total span all columns path same same_counts empty added =
     let here : new ≡ map_text program total counts = added ∙ ap (λ (xs : List ℕ). xs ++ map_text p total slice) empty
     ∙ ap (λ (q : ProgramValue). map_text q total slice) same ∙ ap (λ (cs : List ℕ). map_text program total cs) same_counts in
     let whole : IsPath t (span_of (length t.changes)) counts = subst (λ (s : Span). IsPath t s counts) (columns ∙ ap span_of all) path in
-    (map_text program (length t.changes) counts, (counts, whole, refl), here ∙ ap (λ (n : ℕ). map_text program n counts) all)
+    (counts, whole, here ∙ ap (λ (n : ℕ). map_text program n counts) all)
 
 -- the session that a program is opened in
 pub opened-program : (program : ProgramValue) (units : UnitsState) (s : SessionState) (p : ProgramValue) → s ≡ opened program units → p ≡ s.program → p ≡ program
@@ -88,8 +87,8 @@ leaves-made options program p run stepped world printed IsDrawn a b n m same tol
 pub leaves-opened : (options : PrintOptions) (part : List ℕ) (table : Option StepTable) (program : ProgramValue) (units : UnitsState) (s : SessionState)
     (done : Result Printed ToolFault) (a b : Option (List ℕ)) (n m : ℕ) → s ≡ opened program units → step_table options.table part s ≡ Ok table
     → Leaves (answered options s.program (run_told table options s.program (world_at s.timeline 0)))
-    (DrawnIf options.map s.program (after (counted_steps options.steps s.timeline)) []) done a n b m
-    → Leaves (printed_outcome options part program units) (DrawnRun options part program units []) done a n b m
+    (DrawnIf options.map s.program (after (counted_steps options.steps s.timeline))) done a n b m
+    → Leaves (printed_outcome options part program units) (DrawnRun options part program units) done a n b m
 unfolding printed_outcome
 leaves-opened options part table program units s done a b n m opens chosen leaves =
     let here = ap (λ (x : SessionState). step_table options.table part x) (sym opens) ∙ chosen in
@@ -101,7 +100,7 @@ leaves-opened options part table program units s done a b n m opens chosen leave
 pub leaves-none : (options : PrintOptions) (part : List ℕ) (program : ProgramValue) (units : UnitsState) (s : SessionState) (refusal : Refusal) (printed : Printed)
     (told : Option (List ℕ)) (n : ℕ) → s ≡ opened program units → step_table options.table part s ≡ Err refusal → printed.answer ≡ NoPart refusal
     → printed.deck.items ≡ [] → printed.map.items ≡ []
-    → Leaves (printed_outcome options part program units) (DrawnRun options part program units []) (Ok printed) told n told n
+    → Leaves (printed_outcome options part program units) (DrawnRun options part program units) (Ok printed) told n told n
 unfolding printed_outcome
 leaves-none options part program units s refusal printed told n opens none answer deck map =
     let here = ap (λ (x : SessionState). step_table options.table part x) (sym opens) ∙ none in
@@ -109,8 +108,8 @@ leaves-none options part program units s refusal printed told n opens none answe
 
 -- the map of a session after its steps
 pub draws-after : (steps : ℕ) (s0 s : SessionState) (new : List ℕ) → s.program ≡ s0.program
-    → s.timeline ≡ after (counted_steps steps s0.timeline) → Drawn s.program s.timeline [] new
-    → Drawn s0.program (after (counted_steps steps s0.timeline)) [] new
+    → s.timeline ≡ after (counted_steps steps s0.timeline) → IsMap s.program s.timeline new
+    → IsMap s0.program (after (counted_steps steps s0.timeline)) new
 draws-after steps s0 s new same led drawn = rw (same, led) at drawn
 
 -- ---- which run is asked for
@@ -131,8 +130,8 @@ counts-table (Some asked) format part s e = counts-of asked.of asked format (par
 pub leaves-counted : (options : PrintOptions) (part : List ℕ) (format : TableFormat) (program : ProgramValue) (units : UnitsState) (done : Result Printed ToolFault)
     (a b : Option (List ℕ)) (n m : ℕ) → counts_asked options.table ≡ Some format
     → Leaves (counted_outcome format options program units)
-    (DrawnIf options.map program (after (counted_steps options.steps (opened program units).timeline)) []) done a n b m
-    → Leaves (outcome_of_run options part program units) (DrawnRun options part program units []) done a n b m
+    (DrawnIf options.map program (after (counted_steps options.steps (opened program units).timeline))) done a n b m
+    → Leaves (outcome_of_run options part program units) (DrawnRun options part program units) done a n b m
 unfolding outcome_of_run
 leaves-counted options part format program units done a b n m counts leaves =
     rw (counts, counts-table options.table format part (opened program units) counts) leaves
@@ -153,7 +152,7 @@ table-none asked part s e = rw (no-table asked e) refl
 pub leaves-alone : (options : PrintOptions) (part : List ℕ) (program : ProgramValue) (units : UnitsState) (done : Result Printed ToolFault)
     (a b : Option (List ℕ)) (n m : ℕ) → (options.map || is_some options.table) ≡ false
     → Leaves (answered options program (run_of options (loaded program.words program.start units))) (λ map. map ≡ []) done a n b m
-    → Leaves (outcome_of_run options part program units) (DrawnRun options part program units []) done a n b m
+    → Leaves (outcome_of_run options part program units) (DrawnRun options part program units) done a n b m
 unfolding outcome_of_run printed_outcome
 leaves-alone options part program units done a b n m alone leaves =
     let none = neither options.map (is_some options.table) alone in
@@ -163,55 +162,64 @@ leaves-alone options part program units done a b n m alone leaves =
 -- and one with it in a session
 pub leaves-told : (options : PrintOptions) (part : List ℕ) (program : ProgramValue) (units : UnitsState) (done : Result Printed ToolFault)
     (a b : Option (List ℕ)) (n m : ℕ) → counts_asked options.table ≡ None
-    → Leaves (printed_outcome options part program units) (DrawnRun options part program units []) done a n b m
-    → Leaves (outcome_of_run options part program units) (DrawnRun options part program units []) done a n b m
+    → Leaves (printed_outcome options part program units) (DrawnRun options part program units) done a n b m
+    → Leaves (outcome_of_run options part program units) (DrawnRun options part program units) done a n b m
 unfolding outcome_of_run
 leaves-told options part program units done a b n m counts leaves = rw counts leaves
 
--- a map beside what was there before
-added-drawn : (b : Bool) (program : ProgramValue) (t : Timeline) (old map new : List ℕ) → DrawnIf b program t [] map → new ≡ old ++ map → DrawnIf b program t old new
-added-drawn true program t old map new drawn added = (drawn.0, drawn.1, added ∙ ap (λ (m : List ℕ). old ++ m) drawn.2)
-added-drawn false program t old map new drawn added = added ∙ ap (λ (m : List ℕ). old ++ m) drawn ∙ append-nil old
+-- what is left of a run is what it prints, and its map
+pub leaves-prints : (outcome : PrintOutcome) (IsDrawn : List ℕ → Type 0) (done : Result Printed ToolFault) (a b : Option (List ℕ)) (n m : ℕ)
+    → Leaves outcome IsDrawn done a n b m → Prints outcome done a b
+leaves-prints outcome IsDrawn (Ok printed) a b n m leaves = (leaves.0.0, leaves.1)
+leaves-prints outcome IsDrawn (Err faults.Memory) a b n m broken = broken.0
+leaves-prints outcome IsDrawn (Err faults.Write) a b n m broken = broken.0
+leaves-prints outcome IsDrawn (Err faults.Read) a b n m broken = absurd broken
+leaves-prints outcome IsDrawn (Err (faults.Deck fault)) a b n m broken = absurd broken
+leaves-prints outcome IsDrawn (Err faults.Long) a b n m broken = absurd broken
 
-pub added-run : (options : PrintOptions) (part : List ℕ) (program : ProgramValue) (units : UnitsState) (old map new : List ℕ) → DrawnRun options part program units [] map
-    → new ≡ old ++ map → DrawnRun options part program units old new
-added-run options part program units old map new drawn added =
-    added-drawn (is_drawn options.map (step_table options.table part (opened program units))) program
-    (after (counted_steps options.steps (opened program units).timeline)) old map new drawn added
+pub leaves-map : (outcome : PrintOutcome) (IsDrawn : List ℕ → Type 0) (done : Result Printed ToolFault) (a b : Option (List ℕ)) (n m : ℕ)
+    → Leaves outcome IsDrawn done a n b m → IfOk done (λ p. IsDrawn p.map.items)
+leaves-map outcome IsDrawn (Ok printed) a b n m leaves = leaves.0.1
+leaves-map outcome IsDrawn (Err fault) a b n m broken = tt
 
--- what is answered of what is left
-pub prints-left : (outcome : PrintOutcome) (IsDrawn : List ℕ → Type 0) (printed : Printed) (a b : Option (List ℕ)) (n m : ℕ) → Leaves outcome IsDrawn (Ok printed) a n b m
-    → Prints outcome (Ok printed.answer) a b × (printed.deck.items ≡ kept_of outcome)
-prints-left outcome IsDrawn printed a b n m leaves =
-    let kept : printed.deck.items ≡ kept_of outcome = sym (ap kept_of leaves.0.0) in
-    ((leaves.0.0 ∙ ap (λ (deck : List ℕ). Answered (bytes_of outcome) printed.answer deck) kept, leaves.1), kept)
+-- one more write has failed exactly where that is answered, and nothing is read
+pub leaves-written : (outcome : PrintOutcome) (IsDrawn : List ℕ → Type 0) (done : Result Printed ToolFault) (a b : Option (List ℕ)) (n m : ℕ)
+    → Leaves outcome IsDrawn done a n b m → CountsFailure (done ≡ Err faults.Write) n m
+leaves-written outcome IsDrawn (Ok printed) a b n m leaves = let same = leaves.2 in (((λ e. absurd cc), (λ more. absurd (omega (arith, same, more)))), (λ other. same))
+leaves-written outcome IsDrawn (Err faults.Memory) a b n m broken = let same = broken.1 in (((λ e. absurd cc), (λ more. absurd (omega (arith, same, more)))), (λ other. same))
+leaves-written outcome IsDrawn (Err faults.Write) a b n m broken = (((λ e. broken.1), (λ more. refl)), (λ other. absurd (other refl)))
+leaves-written outcome IsDrawn (Err faults.Read) a b n m broken = absurd broken
+leaves-written outcome IsDrawn (Err (faults.Deck fault)) a b n m broken = absurd broken
+leaves-written outcome IsDrawn (Err faults.Long) a b n m broken = absurd broken
 
-pub prints-broken : (outcome : PrintOutcome) (fault : ToolFault) (a b : Option (List ℕ)) (n m : ℕ) → Broken (bytes_of outcome) fault a n b m → Prints outcome (Err fault) a b
-prints-broken outcome faults.Memory a b n m broken = broken.0
-prints-broken outcome faults.Write a b n m broken = broken.0
-prints-broken outcome faults.Read a b n m broken = absurd broken
-prints-broken outcome (faults.Deck fault) a b n m broken = absurd broken
-prints-broken outcome faults.Long a b n m broken = absurd broken
+pub leaves-read : (outcome : PrintOutcome) (IsDrawn : List ℕ → Type 0) (done : Result Printed ToolFault) (a b : Option (List ℕ)) (n m : ℕ)
+    → Leaves outcome IsDrawn done a n b m → done ≡ Err faults.Read → ⊥
+leaves-read outcome IsDrawn (Ok printed) a b n m leaves e = cc
+leaves-read outcome IsDrawn (Err faults.Memory) a b n m broken e = cc
+leaves-read outcome IsDrawn (Err faults.Write) a b n m broken e = cc
+leaves-read outcome IsDrawn (Err faults.Read) a b n m broken e = broken
+leaves-read outcome IsDrawn (Err (faults.Deck fault)) a b n m broken e = cc
+leaves-read outcome IsDrawn (Err faults.Long) a b n m broken e = cc
 
 -- units, and the parts of a text
-pub drawn-units : (options : PrintOptions) (part : List ℕ) (program : ProgramValue) (given : Result UnitsState DeckFault) (units : UnitsState) (done : Result PrintAnswer ToolFault)
-    (old new : List ℕ) → given ≡ Ok units → OnOk done (DrawnRun options part program units old new) → OnOk done (DrawnProgram options part (Ok program) given old new)
+pub drawn-units : (options : PrintOptions) (part : List ℕ) (program : ProgramValue) (given : Result UnitsState DeckFault) (units : UnitsState) (done : Result Printed ToolFault)
+    → given ≡ Ok units → IfOk done (λ p. DrawnRun options part program units p.map.items) → IfOk done (λ p. DrawnProgram options part (Ok program) given p.map.items)
 unfolding DrawnProgram
-drawn-units options part program given units done old new made drawn = rw made drawn
+drawn-units options part program given units done made drawn = rw made drawn
 
-pub drawn-refused : (options : PrintOptions) (part : List ℕ) (text read source deck cards typewriter : List ℕ) (fault : AsmFault) (old : List ℕ) →
-    read ≡ take 41943041 text → source ≡ (parts_of read).source → assembly source ≡ Err fault → Draws options part text deck cards typewriter old old
+pub drawn-refused : (options : PrintOptions) (part : List ℕ) (text read source deck cards typewriter : List ℕ) (fault : AsmFault) (map : List ℕ) →
+    read ≡ take 41943041 text → source ≡ (parts_of read).source → assembly source ≡ Err fault → map ≡ [] → Draws options part text deck cards typewriter map
 unfolding Draws DrawnProgram
-drawn-refused options part text read source deck cards typewriter fault old e s f =
+drawn-refused options part text read source deck cards typewriter fault map e s f none =
     let here : assembly (parts_of text).source ≡ Err fault = sym (parts-read text read e).0 ∙ sym (ap assembly s) ∙ f in
-    rw here refl
+    rw here none
 
-pub drawn-parts : (options : PrintOptions) (part : List ℕ) (text read source own deck cards typewriter : List ℕ) (program : ProgramValue) (done : Result PrintAnswer ToolFault)
-    (old new : List ℕ) → read ≡ take 41943041 text → source ≡ (parts_of read).source → own ≡ (parts_of read).deck → assembly source ≡ Ok program →
-    OnOk done (DrawnProgram options part (Ok program) (units_asked options (deck_given options.deck own deck) cards typewriter) old new)
-    → OnOk done (Draws options part text deck cards typewriter old new)
+pub drawn-parts : (options : PrintOptions) (part : List ℕ) (text read source own deck cards typewriter : List ℕ) (program : ProgramValue) (done : Result Printed ToolFault)
+    → read ≡ take 41943041 text → source ≡ (parts_of read).source → own ≡ (parts_of read).deck → assembly source ≡ Ok program →
+    IfOk done (λ p. DrawnProgram options part (Ok program) (units_asked options (deck_given options.deck own deck) cards typewriter) p.map.items)
+    → IfOk done (λ p. Draws options part text deck cards typewriter p.map.items)
 unfolding Draws
-drawn-parts options part text read source own deck cards typewriter program done old new e s o made drawn =
+drawn-parts options part text read source own deck cards typewriter program done e s o made drawn =
     let here : assembly (parts_of text).source ≡ Ok program = sym (parts-read text read e).0 ∙ sym (ap assembly s) ∙ made in
     let deck-here : own ≡ (parts_of text).deck = o ∙ (parts-read text read e).1 in
     rw here (rw deck-here at drawn)

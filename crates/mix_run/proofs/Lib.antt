@@ -1,7 +1,6 @@
 mod AnswerLemmas
 mod CheckLemmas
 mod CountedLemmas
-mod CutLemmas
 mod DebugLemmas
 mod DrawnLemmas
 mod HearingLemmas

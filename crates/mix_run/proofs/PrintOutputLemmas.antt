@@ -1,7 +1,7 @@
 -- What a run answers is the outcome: its parts, one after the other.
-use Rattle.std.proofs.Common.{◌≡◌, ◌<◌, ◌≤◌, ◌++◌, ℕ, Bool, true, false, List, Option, Result, Ok, Err, OnOk, refl, sym, ap, ◌∙◌, length, ltb, take, arith}
+use Rattle.std.proofs.Common.{◌≡◌, ◌<◌, ◌≤◌, ℕ, Bool, true, false, List, [], Option, Result, Ok, Err, refl, sym, ap, ◌∙◌, length, ltb, take, arith}
 use Rattle.std.proofs.lemmas.Bool.{lt-ltb, ltb-false, ltb-true}
-use Rattle.std.proofs.lemmas.List.{append-nil, length-take-le, take-take, take_all}
+use Rattle.std.proofs.lemmas.List.{length-take-le, take-take, take_all}
 use Rattle.mixal_asm.specs.Assembly.{assembly}
 use Rattle.mixal_asm.specs.Program.{ProgramValue}
 use Rattle.mixal_asm.specs.declared.fault.AsmFault.{AsmFault}
@@ -10,10 +10,10 @@ use Rattle.mix_machine.specs.units.deck.Deck.{text_of_unit}
 use Rattle.mix_machine.specs.declared.units.deck_fault.DeckFault.{DeckFault}
 use Rattle.mix_run.specs.declared.fault.ToolFault.{ToolFault}
 use Rattle.mix_run.specs.declared.fault.ToolFault.TheVariants as faults
-use Rattle.mix_run.specs.PrintOutput.{Prints, kept_of, with_text, units_asked, outcome_of_run, parts_of, print_outcome, print_output}
+use Rattle.mix_run.specs.PrintOutput.{Prints, with_text, units_asked, outcome_of_run, parts_of, print_outcome, print_output}
 use Rattle.mix_run.specs.UnitsRead.{GivesUnits, deck_given}
-use Rattle.mix_run.specs.declared.print.PrintAnswer.{PrintAnswer}
 use Rattle.mix_run.specs.declared.print.PrintAnswer.TheVariants.{Refused}
+use Rattle.mix_run.specs.declared.print.Printed.{Printed}
 use Rattle.mix_run.specs.declared.print.options.PrintOptions.{PrintOptions}
 use Rattle.mix_run.proofs.RunLemmas.{Keeps-same}
 use Rattle.mix_run.proofs.Truncation.{assembly-take}
@@ -71,17 +71,11 @@ Prints-no_units options part program units faults.Write told h = absurd h
 Prints-no_units options part program units faults.Long told h = absurd h
 
 -- units
-pub Prints-units : (options : PrintOptions) (part : List ℕ) (program : ProgramValue) (given : Result UnitsState DeckFault) (units : UnitsState) (done : Result PrintAnswer ToolFault)
+pub Prints-units : (options : PrintOptions) (part : List ℕ) (program : ProgramValue) (given : Result UnitsState DeckFault) (units : UnitsState) (done : Result Printed ToolFault)
     (old new : Option (List ℕ)) → given ≡ Ok units → Prints (outcome_of_run options part program units) done old new →
     Prints (print_outcome options part (Ok program) given) done old new
 unfolding print_outcome
 Prints-units options part program given units done old new made met = rw made met
-
-pub kept-units : (options : PrintOptions) (part : List ℕ) (program : ProgramValue) (given : Result UnitsState DeckFault) (units : UnitsState) (done : Result PrintAnswer ToolFault)
-    (old new : List ℕ) → given ≡ Ok units → OnOk done (new ≡ old ++ kept_of (outcome_of_run options part program units))
-    → OnOk done (new ≡ old ++ kept_of (print_outcome options part (Ok program) given))
-unfolding print_outcome
-kept-units options part program given units done old new made kept = rw made kept
 
 -- the parts of a text that was read up to one byte more than a bundle may have
 pub parts-read : (text read : List ℕ) → read ≡ take 41943041 text
@@ -95,24 +89,16 @@ parts-taken text read source program fault e s taken refused =
     let same : assembly source ≡ assembly (parts_of text).source = ap assembly s ∙ (parts-read text read e).0 in cc
 
 -- a refused source
-pub Prints-refused : (options : PrintOptions) (part : List ℕ) (text read source deck cards typewriter : List ℕ) (fault : AsmFault) (answer : PrintAnswer) (told : Option (List ℕ)) →
-    read ≡ take 41943041 text → source ≡ (parts_of read).source → assembly source ≡ Err fault → answer ≡ Refused fault
-    → Prints (print_output options part text deck cards typewriter) (Ok answer) told told
+pub Prints-refused : (options : PrintOptions) (part : List ℕ) (text read source deck cards typewriter : List ℕ) (fault : AsmFault) (printed : Printed) (told : Option (List ℕ)) →
+    read ≡ take 41943041 text → source ≡ (parts_of read).source → assembly source ≡ Err fault → printed.answer ≡ Refused fault
+    → printed.deck.items ≡ [] → Prints (print_output options part text deck cards typewriter) (Ok printed) told told
 unfolding print_output print_outcome
-Prints-refused options part text read source deck cards typewriter fault answer told e s f is =
+Prints-refused options part text read source deck cards typewriter fault printed told e s f is none =
     let here : assembly (parts_of text).source ≡ Err fault = sym (parts-read text read e).0 ∙ sym (ap assembly s) ∙ f in
-    rw (here, is) (refl, Appends-nothing told)
-
-pub kept-refused : (options : PrintOptions) (part : List ℕ) (text read source deck cards typewriter : List ℕ) (fault : AsmFault) (old : List ℕ) →
-    read ≡ take 41943041 text → source ≡ (parts_of read).source → assembly source ≡ Err fault
-    → old ≡ old ++ kept_of (print_output options part text deck cards typewriter)
-unfolding print_output print_outcome
-kept-refused options part text read source deck cards typewriter fault old e s f =
-    let here : assembly (parts_of text).source ≡ Err fault = sym (parts-read text read e).0 ∙ sym (ap assembly s) ∙ f in
-    rw here (sym (append-nil old))
+    rw (here, is, none) (refl, Appends-nothing told)
 
 -- a source, with the deck of its bundle
-pub Prints-parts : (options : PrintOptions) (part : List ℕ) (text read source own deck cards typewriter : List ℕ) (program : ProgramValue) (done : Result PrintAnswer ToolFault)
+pub Prints-parts : (options : PrintOptions) (part : List ℕ) (text read source own deck cards typewriter : List ℕ) (program : ProgramValue) (done : Result Printed ToolFault)
     (old new : Option (List ℕ)) → read ≡ take 41943041 text → source ≡ (parts_of read).source → own ≡ (parts_of read).deck → assembly source ≡ Ok program →
     Prints (print_outcome options part (Ok program) (units_asked options (deck_given options.deck own deck) cards typewriter)) done old new
     → Prints (print_output options part text deck cards typewriter) done old new
@@ -121,13 +107,3 @@ Prints-parts options part text read source own deck cards typewriter program don
     let here : assembly (parts_of text).source ≡ Ok program = sym (parts-read text read e).0 ∙ sym (ap assembly s) ∙ made in
     let deck-here : own ≡ (parts_of text).deck = o ∙ (parts-read text read e).1 in
     rw here (rw deck-here at met)
-
-pub kept-parts : (options : PrintOptions) (part : List ℕ) (text read source own deck cards typewriter : List ℕ) (program : ProgramValue) (done : Result PrintAnswer ToolFault)
-    (old new : List ℕ) → read ≡ take 41943041 text → source ≡ (parts_of read).source → own ≡ (parts_of read).deck → assembly source ≡ Ok program →
-    OnOk done (new ≡ old ++ kept_of (print_outcome options part (Ok program) (units_asked options (deck_given options.deck own deck) cards typewriter)))
-    → OnOk done (new ≡ old ++ kept_of (print_output options part text deck cards typewriter))
-unfolding print_output
-kept-parts options part text read source own deck cards typewriter program done old new e s o made kept =
-    let here : assembly (parts_of text).source ≡ Ok program = sym (parts-read text read e).0 ∙ sym (ap assembly s) ∙ made in
-    let deck-here : own ≡ (parts_of text).deck = o ∙ (parts-read text read e).1 in
-    rw here (rw deck-here at kept)

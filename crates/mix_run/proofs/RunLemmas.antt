@@ -9,7 +9,7 @@ use Rattle.mix_session.specs.Answer.{told_of}
 use Rattle.mix_lines.specs.Lines.{lines, lines-nil}
 use Rattle.mix_run.specs.Output.{IsDeckRefusal, Outcome, Meets, outcome_of, replies_of, said_of, outcome_of_script, bundle_output, output, list_output, list_outcome, status_of, TooLong, Ended}
 use Rattle.mix_stream.specs.Stream.{AppendsFront, ConsumesAtMost}
-use Rattle.mix_run.specs.Bundle.{cut_of}
+use Rattle.mix_files.specs.Bundle.{cut_of}
 use Rattle.mix_run.specs.UnitsRead.{GivesUnits}
 use Rattle.mixal_asm.specs.Assembly.{assembly}
 use Rattle.mixal_asm.specs.Program.{ProgramValue}

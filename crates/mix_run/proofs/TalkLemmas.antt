@@ -8,7 +8,6 @@ use Rattle.std.specs.Io.KnownBytes.{Appends, Consumes, IsAtEnd, Keeps}
 use Rattle.mix_lines.specs.Lines.{is_line_feed, lines, lines-nil, strip_line_feed, text_of_line, whole_lines, words}
 use Rattle.std.specs.Str.Lines.{strip_carriage_return}
 use Rattle.std.proofs.lemmas.Bool.{lt-ltb}
-use Rattle.mix_session.specs.Names.{names_of}
 use Rattle.mix_session.specs.Session.{SessionState, effect_in}
 use Rattle.mix_session.specs.Command.{after, reply_of}
 use Rattle.mix_session.specs.Answer.{told_of}
@@ -18,11 +17,11 @@ use Rattle.mix_stream.specs.Stream.{AppendsFront}
 use Rattle.mix_run.specs.Output.{replies}
 use Rattle.mix_run.specs.Bundle.{OriginValue, bundle_of}
 use Rattle.mix_run.specs.Opening.{Saved, noted, noted_one}
-use Rattle.mix_run.specs.Recall.{RecallState, meant, meant_by, recalled, recalled_by}
+use Rattle.mix_run.specs.Recall.{RecallState, meant, meant_by, read_as, recalled, recalled_by}
 use Rattle.mix_run.specs.Saves.{saves, saves_by, saves_of}
 use Rattle.mix_run.specs.Asked.{after_lines, answers, asked, is_over, is_end, is_quit, recalled_all}
 use Rattle.mix_run.specs.Talk.{is_too_long, is_whole, max_line_bytes}
-use Rattle.mix_person.specs.Person.{kind_of, person_line}
+use Rattle.mix_person.specs.Person.{kind_of}
 use Rattle.mix_person.specs.declared.person.Line.{Line}
 use Rattle.mix_person.specs.declared.person.Line.TheVariants as line_kind
 use Rattle.mix_run.specs.declared.talk.aside.Talker.{Talker}
@@ -185,22 +184,22 @@ not_so true h = absurd (h refl)
 not_so false h = refl
 
 -- a line that ends the talk stands for no line of a script
-quit-meant : (s : SessionState) (kind : Line) (typed : List ℕ) → is_end kind ≡ true → meant_by s kind typed ≡ []
-quit-meant s line_kind.Quit typed e = refl
-quit-meant s line_kind.Command typed e = absurd (true≢false (sym e))
-quit-meant s line_kind.Help typed e = absurd (true≢false (sym e))
-quit-meant s line_kind.Listing typed e = absurd (true≢false (sym e))
-quit-meant s line_kind.Watch typed e = absurd (true≢false (sym e))
-quit-meant s line_kind.Delete typed e = absurd (true≢false (sym e))
-quit-meant s line_kind.Display typed e = absurd (true≢false (sym e))
-quit-meant s line_kind.Undisplay typed e = absurd (true≢false (sym e))
-quit-meant s line_kind.Save typed e = absurd (true≢false (sym e))
-quit-meant s line_kind.Source typed e = absurd (true≢false (sym e))
-quit-meant s line_kind.Reload typed e = absurd (true≢false (sym e))
+quit-meant : (s : SessionState) (points : List ℕ) (kind : Line) (typed : List ℕ) → is_end kind ≡ true → meant_by s points kind typed ≡ []
+quit-meant s points line_kind.Quit typed e = refl
+quit-meant s points line_kind.Command typed e = absurd (true≢false (sym e))
+quit-meant s points line_kind.Help typed e = absurd (true≢false (sym e))
+quit-meant s points line_kind.Listing typed e = absurd (true≢false (sym e))
+quit-meant s points line_kind.Watch typed e = absurd (true≢false (sym e))
+quit-meant s points line_kind.Delete typed e = absurd (true≢false (sym e))
+quit-meant s points line_kind.Display typed e = absurd (true≢false (sym e))
+quit-meant s points line_kind.Undisplay typed e = absurd (true≢false (sym e))
+quit-meant s points line_kind.Save typed e = absurd (true≢false (sym e))
+quit-meant s points line_kind.Source typed e = absurd (true≢false (sym e))
+quit-meant s points line_kind.Reload typed e = absurd (true≢false (sym e))
 
 pub quit-said : (s : SessionState) (talker : Talker) (r : RecallState) (line : List ℕ) → is_quit talker line ≡ true → meant s talker r line ≡ []
 quit-said s talkers.Program r line e = absurd (true≢false (sym e))
-quit-said s talkers.Person r line e = quit-meant s (kind_of (words line)) (person_line (names_of s.program) r.again r.watch line) e
+quit-said s talkers.Person r line e = quit-meant s r.points (kind_of (words line)) (read_as s r line) e
 
 -- nor does it save anything
 quit-unsaved : (kind : Line) (bundle : List ℕ) (said : List (List ℕ)) → is_end kind ≡ true → saves_by kind bundle said ≡ []
@@ -232,7 +231,7 @@ quit-unrecalled s line_kind.Reload typed r e = absurd (true≢false (sym e))
 
 pub quit-recalled : (s : SessionState) (talker : Talker) (r : RecallState) (line : List ℕ) → is_quit talker line ≡ true → recalled s talker r line ≡ r
 quit-recalled s talkers.Program r line e = refl
-quit-recalled s talkers.Person r line e = quit-unrecalled s (kind_of (words line)) (person_line (names_of s.program) r.again r.watch line) r e
+quit-recalled s talkers.Person r line e = quit-unrecalled s (kind_of (words line)) (read_as s r line) r e
 
 pub quit-saves : (o : OriginValue) (talker : Talker) (r : RecallState) (line : List ℕ) → is_quit talker line ≡ true → saves_of o talker r line ≡ []
 quit-saves o talkers.Program r line e = refl

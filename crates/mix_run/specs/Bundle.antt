@@ -1,35 +1,5 @@
--- The parts of a bundle: source, deck and script, parted by two marker lines.
+-- The bundle of a source, a deck and a script, and what a talk is about.
 use Rattle.std.specs.Prelude.{ℕ, Bool, true, List, [], ◌∷◌, ◌++◌, ◌-◌, ◌==◌, Option, None, Some, codes, length, slice_get, if◌then◌else◌}
-use Rattle.std.specs.List.{after_first, before_first, concat}
-use Rattle.std.specs.Str.{bytes_eq}
-use Rattle.mix_lines.specs.Lines.{text_of_line, whole_lines}
-
--- whether a line is exactly a marker, but for its line end
-abbrev pub is_marker : List ℕ → List ℕ → Bool
-is_marker marker line = bytes_eq (text_of_line line) marker
-
--- the bytes of a text before the first line that is the marker, or all where none is
-unfoldable pub before_marker : List ℕ → List ℕ → List ℕ
-before_marker marker text = concat (before_first (is_marker marker) (whole_lines text))
-
--- the bytes of a text after the first line that is the marker, or none where none is
-unfoldable pub after_marker : List ℕ → List ℕ → List ℕ
-after_marker marker text = concat (after_first (is_marker marker) (whole_lines text))
-
-pub record Cut : Type 0 where
-  pub source : List ℕ
-  pub deck : List ℕ
-  pub script : List ℕ
-
--- the script follows the first line %SCRIPT; of what stands before it, the deck follows the first line %DEVICES
-abbrev pub cut_of : List ℕ → Cut
-cut_of bundle =
-    let front = before_marker (codes "%SCRIPT") bundle in
-    record {
-      source = before_marker (codes "%DEVICES") front;
-      deck = after_marker (codes "%DEVICES") front;
-      script = after_marker (codes "%SCRIPT") bundle;
-    }
 
 -- whether a byte, if there is one, is a line feed
 abbrev pub is_end_byte : Option ℕ → Bool

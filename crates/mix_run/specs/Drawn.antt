@@ -1,5 +1,5 @@
 -- Which map a run draws, if that is asked for: that of the same steps in a session.
-use Rattle.std.specs.Prelude.{◌≡◌, ℕ, Bool, true, false, List, ◌++◌, Option, Result, Ok, Err}
+use Rattle.std.specs.Prelude.{◌≡◌, ℕ, Bool, true, false, List, [], Option, Result, Ok, Err}
 use Rattle.mixal_asm.specs.Assembly.{assembly}
 use Rattle.mixal_asm.specs.Program.{ProgramValue}
 use Rattle.mixal_asm.specs.declared.fault.AsmFault.{AsmFault}
@@ -17,14 +17,10 @@ use Rattle.mix_run.specs.UnitsRead.{deck_given}
 use Rattle.mix_run.specs.declared.print.options.PrintOptions.{PrintOptions}
 use Rattle.mix_run.specs.declared.print.tabled.StepTable.{StepTable}
 
--- after some bytes there are those of the map of the changes done
-abbrev pub Drawn : ProgramValue → Timeline → List ℕ → List ℕ → Type 0
-Drawn program t old new = (bytes : List ℕ) × IsMap program t bytes × (new ≡ old ++ bytes)
-
--- if it is asked for
-abbrev pub DrawnIf : Bool → ProgramValue → Timeline → List ℕ → List ℕ → Type 0
-DrawnIf true program t old new = Drawn program t old new
-DrawnIf false program t old new = new ≡ old
+-- the map of the changes done, if it is asked for, and else nothing
+abbrev pub DrawnIf : Bool → ProgramValue → Timeline → List ℕ → Type 0
+DrawnIf true program t map = IsMap program t map
+DrawnIf false program t map = map ≡ []
 
 -- a run for which a map is drawn: it is asked for, and no part of which a table is to be is none
 abbrev pub is_drawn : Bool → Result (Option StepTable) Refusal → Bool
@@ -32,19 +28,19 @@ is_drawn map (Ok table) = map
 is_drawn map (Err refusal) = false
 
 -- a program with its units, after as many steps as are asked for, or up to a halt or a fault
-abbrev pub DrawnRun : PrintOptions → List ℕ → ProgramValue → UnitsState → List ℕ → List ℕ → Type 0
-DrawnRun options part program units old new =
+abbrev pub DrawnRun : PrintOptions → List ℕ → ProgramValue → UnitsState → List ℕ → Type 0
+DrawnRun options part program units map =
     DrawnIf (is_drawn options.map (step_table options.table part (opened program units))) program
-    (after (counted_steps options.steps (opened program units).timeline)) old new
+    (after (counted_steps options.steps (opened program units).timeline)) map
 
 -- an assembled source, with its units
-unfoldable pub DrawnProgram : PrintOptions → List ℕ → Result ProgramValue AsmFault → Result UnitsState DeckFault → List ℕ → List ℕ → Type 0
-DrawnProgram options part (Err fault) units old new = new ≡ old
-DrawnProgram options part (Ok program) (Err fault) old new = new ≡ old
-DrawnProgram options part (Ok program) (Ok units) old new = DrawnRun options part program units old new
+unfoldable pub DrawnProgram : PrintOptions → List ℕ → Result ProgramValue AsmFault → Result UnitsState DeckFault → List ℕ → Type 0
+DrawnProgram options part (Err fault) units map = map ≡ []
+DrawnProgram options part (Ok program) (Err fault) map = map ≡ []
+DrawnProgram options part (Ok program) (Ok units) map = DrawnRun options part program units map
 
 -- a bundle or a source, a deck that is given in place of its own, cards, and lines for the typewriter
-unfoldable pub Draws : PrintOptions → List ℕ → List ℕ → List ℕ → List ℕ → List ℕ → List ℕ → List ℕ → Type 0
-Draws options part text deck cards typewriter old new =
+unfoldable pub Draws : PrintOptions → List ℕ → List ℕ → List ℕ → List ℕ → List ℕ → List ℕ → Type 0
+Draws options part text deck cards typewriter map =
     let parts = parts_of text in
-    DrawnProgram options part (assembly parts.source) (units_asked options (deck_given options.deck parts.deck deck) cards typewriter) old new
+    DrawnProgram options part (assembly parts.source) (units_asked options (deck_given options.deck parts.deck deck) cards typewriter) map

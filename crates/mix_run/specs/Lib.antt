@@ -10,12 +10,12 @@ pub mod Keep
 pub mod Map
 pub mod Opening
 pub mod Output
+pub mod Points
 pub mod Print
 pub mod PrintOutput
 pub mod PrintSteps
 pub mod Reason
 pub mod Recall
-pub mod Refusal
 pub mod Reload
 pub mod Saves
 pub mod Sources

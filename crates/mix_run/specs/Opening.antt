@@ -4,6 +4,7 @@ use Rattle.mix_refused.specs.declared.refused.Refused.{Refused}
 use Rattle.mix_refused.specs.declared.refused.Refused.TheVariants as refused
 use Rattle.mix_run.specs.declared.opener.Unread.{Unread}
 use Rattle.mix_run.specs.declared.opener.Unread.TheVariants as unread
+use Rattle.mix_run.specs.declared.opener.Unsaved.{Unsaved}
 use Rattle.mix_run.specs.declared.reason.Reason.{Reason}
 
 -- what files hold: the text of each name, or why a name can't be opened
@@ -23,6 +24,15 @@ noted_one (Some so_far) file = Some (so_far ++ file ∷ [])
 abbrev pub noted : Option (List Saved) → List Saved → Option (List Saved)
 noted so_far [] = so_far
 noted so_far (file ∷ files) = noted (noted_one so_far file) files
+
+-- why a text is not saved: its file can't be opened or written, or memory is refused
+abbrev pub WhyUnsaved : Type 0
+WhyUnsaved = Refused Unsaved
+
+-- why the last text that was not saved was not, after one save more, which may have gone well
+abbrev pub refused_by : {A E : Type 0} → Option E → Result A E → Option E
+refused_by before (Ok saved) = before
+refused_by before (Err why) = Some why
 
 -- a name that can't be opened, and why
 abbrev pub Missing : Type 0

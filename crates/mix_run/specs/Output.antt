@@ -9,7 +9,8 @@ use Rattle.mixal_asm.specs.declared.fault.AsmFault.{AsmFault}
 use Rattle.mix_session.specs.Session.{SessionState, opened, effect_in}
 use Rattle.mix_session.specs.Command.{after, reply_of}
 use Rattle.mix_session.specs.Answer.{told_of}
-use Rattle.mix_run.specs.Bundle.{cut_of}
+pub use Rattle.mix_files.specs.Bundle.{max_bundle_bytes}
+use Rattle.mix_files.specs.Bundle.{cut_of}
 use Rattle.mix_machine.specs.units.Units.{UnitsState}
 use Rattle.mix_machine.specs.units.deck.Deck.{deck_of}
 use Rattle.mix_lines.specs.Lines.{lines}
@@ -24,10 +25,6 @@ use Rattle.mix_session.specs.declared.reply.Told.TheVariants.{Accepted, Refused}
 -- how many bytes a script may have
 abbrev pub max_script_bytes : ℕ
 max_script_bytes = 1048576
-
--- how many bytes a bundle may have
-abbrev pub max_bundle_bytes : ℕ
-max_bundle_bytes = 41943040
 
 -- how a run ends: with these bytes and this status, or, with no byte written, for its deck or the length of its input
 pub data Outcome : Type 0 where

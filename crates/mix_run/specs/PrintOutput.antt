@@ -1,5 +1,5 @@
 -- What `run` writes, answers and keeps: a function of the source or bundle, the deck, the cards, the lines for the typewriter, and what is asked for.
-use Rattle.std.specs.Prelude.{◌≡◌, ℕ, Bool, Option, None, Some, option_and_then, List, [], Result, Ok, Err, length, nat_lt, if◌then◌else◌}
+use Rattle.std.specs.Prelude.{◌≡◌, ℕ, Bool, Option, None, Some, option_and_then, List, [], Result, Ok, Err, if◌then◌else◌}
 use Rattle.std.specs.Io.KnownBytes.{Appends, Keeps}
 use Rattle.mixal_asm.specs.Assembly.{assembly}
 use Rattle.mixal_asm.specs.Program.{ProgramValue}
@@ -12,8 +12,7 @@ use Rattle.mix_machine.specs.declared.units.deck_fault.DeckFault.{DeckFault}
 use Rattle.mix_run.specs.declared.fault.ToolFault.{ToolFault}
 use Rattle.mix_run.specs.declared.fault.ToolFault.TheVariants as faults
 use Rattle.mix_stream.specs.Stream.{AppendsFront}
-use Rattle.mix_run.specs.Bundle.{Cut, cut_of}
-use Rattle.mix_run.specs.Output.{max_bundle_bytes}
+unfoldable pub use Rattle.mix_files.specs.Bundle.{parts_of}
 use Rattle.mix_run.specs.Counted.{counted_run}
 use Rattle.mix_run.specs.Keep.{kept_if}
 use Rattle.mix_run.specs.Print.{Run, counted, line_at}
@@ -113,10 +112,6 @@ print_outcome options part (Err fault) units = Answered [] (Refused fault) []
 print_outcome options part (Ok program) (Err fault) = UnitsRefused fault
 print_outcome options part (Ok program) (Ok units) = outcome_of_run options part program units
 
--- the source and the deck of a text: those of a bundle; a text that is longer than a bundle may be is a source alone
-unfoldable pub parts_of : List ℕ → Cut
-parts_of text = if nat_lt max_bundle_bytes (length text) then record { source = text; deck = []; script = [] } else cut_of text
-
 -- what was read of a text has its deck, and a source that is assembled to the same
 abbrev pub IsReadAs : List ℕ → List ℕ → Type 0
 IsReadAs read text = (assembly (parts_of read).source ≡ assembly (parts_of text).source) × ((parts_of read).deck ≡ (parts_of text).deck)
@@ -137,10 +132,10 @@ abbrev pub kept_of : PrintOutcome → List ℕ
 kept_of (Answered bytes answer kept) = kept
 kept_of (UnitsRefused fault) = []
 
--- What a call answers and writes is the outcome. Where memory is refused, or a write fails, a beginning of its bytes has been written;
+-- What a call answers, writes and keeps is the outcome. Where memory is refused, or a write fails, a beginning of its bytes has been written;
 -- where a read fails, none.
-abbrev pub Prints : PrintOutcome → Result PrintAnswer ToolFault → Option (List ℕ) → Option (List ℕ) → Type 0
-Prints outcome (Ok answer) old new = (outcome ≡ Answered (bytes_of outcome) answer (kept_of outcome)) × Appends old new (bytes_of outcome)
+abbrev pub Prints : PrintOutcome → Result Printed ToolFault → Option (List ℕ) → Option (List ℕ) → Type 0
+Prints outcome (Ok printed) old new = (outcome ≡ Answered (bytes_of outcome) printed.answer printed.deck.items) × Appends old new (bytes_of outcome)
 Prints outcome (Err (faults.Deck fault)) old new = (outcome ≡ UnitsRefused fault) × Keeps old new
 Prints outcome (Err faults.Long) old new = ⊥
 Prints outcome (Err faults.Memory) old new = AppendsFront old new (bytes_of outcome)

@@ -1,9 +1,8 @@
-//! A bundle: its parts, and their run.
+//! The run of a bundle, and a bundle of what was done.
 
 ghost use Rattle.std.specs.Prelude.{◌≡◌, ◌≢◌, ◌<◌, ◌+◌, ◌-◌, ◌^◌, ◌++◌, ◌∷◌, ℕ, List, Some, Err, IfOk, OnOk, false, codes, length, slice_get};
 ghost use Rattle.std.specs.Io.KnownBytes.{Keeps};
-ghost use Rattle.mix_run.specs.Bundle.{after_marker, before_marker, bundle_of, cut_of, ended, is_end_byte, marked, origin_of};
-ghost use Rattle.mix_run.specs.PrintOutput.{parts_of};
+ghost use Rattle.mix_run.specs.Bundle.{bundle_of, ended, is_end_byte, marked, origin_of};
 ghost use Rattle.mix_run.specs.Output.{Meets, IsStatus, output, bundle_output, max_bundle_bytes};
 ghost use Rattle.mix_stream.specs.Stream.{ConsumesAtMost, CountsFailure};
 
@@ -11,27 +10,13 @@ use crate::fault::ToolFault;
 use crate::run::open_and_execute;
 use crate::statuses::refuse_source;
 use crate::units::units_of;
-use mix_lines::{line_text, split_whole_line};
+pub(crate) use mix_files::{MAX_BUNDLE_BYTES, parts_of};
+use mix_files::{DEVICES, SCRIPT, cut};
 use mix_refused::{Memory, Refused};
 use mix_stream::{In, Out, read_up_to};
 use mixal_asm::assemble;
 use std::alloc::Global;
 use std::marker::Model;
-
-/// The most bytes that a bundle may have.
-pub(crate) const MAX_BUNDLE_BYTES: usize = 41_943_040;
-
-const DEVICES: &[u8] = b"%DEVICES";
-
-const SCRIPT: &[u8] = b"%SCRIPT";
-
-/// The source, the deck and the script of a bundle, each with all its bytes; a part that is missing is empty.
-#[derive(Clone, Copy)]
-pub(crate) struct BundleParts<'a> {
-    pub source: &'a [u8],
-    pub deck: &'a [u8],
-    pub script: &'a [u8],
-}
 
 /// What a talk is about: the file of its source, the text of that, and the deck of its devices.
 #[derive(Drop)]
@@ -132,38 +117,6 @@ pub(crate) fn bundle_of(alloc: Global, origin: &Origin, script: &[u8]) -> Result
     Ok(text)
 }
 
-/// Cuts a bundle at its first line `%SCRIPT`, and what stands before it at its first line `%DEVICES`.
-pub(crate) fn cut(bundle: &[u8]) -> BundleParts<'_>
-    ensures source { result.source.now ≡ (cut_of bundle.now).source }
-    ensures deck { result.deck.now ≡ (cut_of bundle.now).deck }
-    ensures script { result.script.now ≡ (cut_of bundle.now).script }
-{
-    let (front, script) = split_at_marker(bundle, SCRIPT);
-    let (source, deck) = split_at_marker(front, DEVICES);
-    BundleParts {
-        source,
-        deck,
-        script,
-    }
-}
-
-/// Cuts a text as a bundle; one that is longer than a bundle may be is a source alone.
-#[tactic(auto, unfolding(crate::specs::PrintOutput::parts_of))]
-pub(crate) fn parts_of(text: &[u8]) -> BundleParts<'_>
-    ensures source { result.source.now ≡ (parts_of text.now).source }
-    ensures deck { result.deck.now ≡ (parts_of text.now).deck }
-    ensures script { result.script.now ≡ (parts_of text.now).script }
-{
-    if text.len() > MAX_BUNDLE_BYTES {
-        return BundleParts {
-            source: text,
-            deck: b"",
-            script: b"",
-        };
-    }
-    cut(text)
-}
-
 /// A copy of a part.
 pub(crate) fn copy_of(alloc: Global, part: &[u8]) -> Result<Vec<u8>, Memory>
     ensures { IfOk result (λ text. text.items ≡ part.now) }
@@ -171,22 +124,6 @@ pub(crate) fn copy_of(alloc: Global, part: &[u8]) -> Result<Vec<u8>, Memory>
     let mut text = Vec::new(alloc);
     text.extend_from_slice(part)?;
     Ok(text)
-}
-
-#[tactic(auto, using(crate::proofs::CutLemmas::cutting))]
-fn split_at_marker<'a>(text: &'a [u8], marker: &[u8]) -> (&'a [u8], &'a [u8])
-    ensures before { result.0.now ≡ before_marker marker.now text.now }
-    ensures after { result.1.now ≡ after_marker marker.now text.now }
-{
-    let mut rest = text;
-    while !rest.is_empty() {
-        let (line, after) = split_whole_line(rest);
-        if line_text(line) == marker {
-            return (&text[..text.len() - rest.len()], after);
-        }
-        rest = after;
-    }
-    (text, rest)
 }
 
 // A source, a deck and a script that are read already.

@@ -30,9 +30,11 @@ pub use mix_session::{
 };
 pub use opener::{Opener, Unread, Unsaved};
 pub use print::options::{AskedTable, PrintOptions, TableOf, UnitSet};
-pub use print::{ConflictAt, Conflicts, PrintAnswer, PrintTexts, RanTo, RunEnd, run_printed};
+pub use print::{
+    ConflictAt, Conflicts, PrintAnswer, PrintTexts, Printed, RanTo, RunEnd, run_printed,
+};
 pub use reason::Reason;
-pub use run::run_debug;
+pub use run::{DebugOptions, run_debug};
 pub use statuses::{DONE, NOT_DONE, SOURCE_REFUSED};
 pub use table::TableFormat;
 pub use talk::{Streams, Talker, run_talk};

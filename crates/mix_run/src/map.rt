@@ -176,7 +176,7 @@ fn add_picture(
     add_head(alloc, sheet, text)?;
     add_told(alloc, program, sheet, counts, places, text)?;
     text.extend_from_slice(b"</desc>\n")?;
-    add_rows(alloc, program, sheet, counts, places, text)?;
+    add_rows(program, sheet, counts, places, text)?;
     let close = close_text(alloc, height)?;
     text.extend_from_slice(close.as_bytes())?;
     Ok(())

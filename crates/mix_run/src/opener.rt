@@ -1,7 +1,7 @@
 //! What opens files by their names, reads them, and saves texts in them.
 
 ghost use Rattle.std.specs.Prelude.{◌≡◌, ◌∷◌, [], ℕ, List, Option, Some, IfOk};
-ghost use Rattle.mix_run.specs.Opening.{Asks, Files, Gives, GivesText, Saved, noted, rest_given};
+ghost use Rattle.mix_run.specs.Opening.{Asks, Files, Gives, GivesText, Saved, WhyUnsaved, noted, refused_by, rest_given};
 
 use crate::reason::Reason;
 use mix_refused::Refused;
@@ -42,6 +42,9 @@ pub trait Opener {
     // The texts that were to be saved so far, in their order, each with the name of its file, where they are known.
     ghost saved: { Self → Option (List Saved) };
 
+    // Why the last text that was not saved was not; none where each was.
+    ghost refusal: { Self → Option WhyUnsaved };
+
     /// A reader of a file from its beginning, with no failure yet, or why the file can't be opened.
     fn open(&mut self, name: &str) -> Result<Self::Reader, Reason>
         ensures asked { Asks (asked self.old) (asked self.new) (name.now ∷ []) }
@@ -49,7 +52,8 @@ pub trait Opener {
         ensures fresh { IfOk result (λ r. Self.Reader.failed r ≡ 0) }
         ensures same { holds self.new ≡ holds self.old }
         ensures nothing_created { created self.new ≡ created self.old }
-        ensures nothing_saved { saved self.new ≡ saved self.old };
+        ensures nothing_saved { saved self.new ≡ saved self.old }
+        ensures nothing_refused { refusal self.new ≡ refusal self.old };
 
     /// The text of a file beside those that are opened, up to its end or to so many bytes; or why it can't be read, or memory is refused.
     fn read(&mut self, alloc: Global, name: &[u8], most: usize) -> Result<Vec<u8>, Refused<Unread>>
@@ -57,13 +61,16 @@ pub trait Opener {
         ensures same { holds self.new ≡ holds self.old }
         ensures nothing_asked { asked self.new ≡ asked self.old }
         ensures nothing_created { created self.new ≡ created self.old }
-        ensures nothing_saved { saved self.new ≡ saved self.old };
+        ensures nothing_saved { saved self.new ≡ saved self.old }
+        ensures nothing_refused { refusal self.new ≡ refusal self.old };
 
-    /// Saves a text in a file of this name, or says why not, or memory is refused. A file that is there already holds either what it held or the
-    /// whole text: never a part of it. What is no file but a device, or leads to another file, is written to as it is.
+    /// Saves a text in a file of this name, or says why not, or memory is refused. A file that is
+    /// there already is to hold either what it held or the whole text, and never a part of it; a
+    /// device is written to as it is.
     fn save(&mut self, alloc: Global, name: &[u8], text: &[u8]) -> Result<(), Refused<Unsaved>>
         ensures created { Asks (created self.old) (created self.new) (name.now ∷ []) }
         ensures saved { saved self.new ≡ noted (saved self.old) ((name.now, text.now) ∷ []) }
+        ensures refused { refusal self.new ≡ refused_by (refusal self.old) result }
         ensures same { holds self.new ≡ holds self.old }
         ensures nothing_asked { asked self.new ≡ asked self.old };
 }

@@ -22,13 +22,16 @@ ghost use Rattle.mix_stream.specs.Stream.{ConsumesAtMost, CountsFailure};
 
 mod answer;
 mod aside;
+mod asked;
 mod done;
 mod file;
+mod finish;
 mod heard;
 mod input;
 mod listing;
 mod opened;
 mod pending;
+mod points;
 mod recall;
 mod reload;
 mod save;

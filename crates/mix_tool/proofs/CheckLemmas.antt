@@ -9,6 +9,7 @@ use Rattle.mix_run.specs.declared.fault.ToolFault.{ToolFault}
 use Rattle.mix_tool.specs.Ending.{IsAmong, IsFileOf, Seen}
 use Rattle.mix_run.specs.Opening.{Asks, Files, Missing, Opens, asked_of, missing_of, named, opened_text}
 use Rattle.mix_tool.specs.Plan.{DoneAfter, FileNames, adapts, hears_client, in_order, named_of, names_of, speaks}
+use Rattle.mix_tool.proofs.EndingLemmas.{among-more}
 use Rattle.mix_tool.proofs.OpeningLemmas.{named-first, named-later, opens-end, opens-then}
 
 -- some of the names are left; those before them were opened, and their sources reported
@@ -64,11 +65,6 @@ all-files all json names a b reports so_far =
 -- some of the names are left; the file that was read last is one of those before them
 abbrev pub ReadSoFar : List (List ℕ) → List (List ℕ) → Option (List ℕ) → Type 0
 ReadSoFar names left file = (done : List (List ℕ)) × (names ≡ done ++ left) × IsFileOf done file
-
-among-more : (names more : List (List ℕ)) (name : List ℕ) → IsAmong names name → IsAmong (names ++ more) name
-among-more [] more name h = absurd h
-among-more (first ∷ rest) more name (inl e) = inl e
-among-more (first ∷ rest) more name (inr h) = inr (among-more rest more name h)
 
 among-last : (names : List (List ℕ)) (name : List ℕ) → IsAmong (names ++ name ∷ []) name
 among-last [] name = inl refl

@@ -2,3 +2,4 @@ mod CheckLemmas
 mod EndingLemmas
 mod OpeningLemmas
 mod SavingLemmas
+mod ToldLemmas

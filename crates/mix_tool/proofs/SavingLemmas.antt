@@ -1,41 +1,29 @@
 -- What a run saves, by its status.
-use Rattle.std.proofs.Common.{◌≡◌, ◌≢◌, ◌∙◌, ◌⊎◌, ⊎_elim, ℕ, Bool, true, false, List, [], ◌∷◌, ◌++◌, Option, None, Some, Result, Ok, Err, ap, inl, inr, refl, sym, subst}
-use Rattle.std.specs.Prelude.{OnOk, unwrap_or}
-use Rattle.mix_run.specs.Opening.{Asks, Saved, named, noted, noted_one}
+use Rattle.std.proofs.Common.{◌≡◌, ◌∙◌, ◌⊎◌, ⊎_elim, ℕ, List, [], ◌∷◌, ◌++◌, Option, Some, Result, Ok, Err, ap, inl, inr, refl, sym}
+use Rattle.std.specs.Prelude.{IfOk, unwrap_or}
+use Rattle.mix_run.specs.Opening.{Asks, Saved, noted, noted_one}
+use Rattle.mix_run.specs.PrintOutput.{PrintOutcome, Prints, kept_of}
 use Rattle.mix_run.specs.declared.fault.ToolFault.{ToolFault}
 use Rattle.mix_run.specs.declared.print.PrintAnswer.{PrintAnswer}
 use Rattle.mix_run.specs.declared.print.PrintAnswer.TheVariants as answers
-use Rattle.mix_run.specs.declared.print.options.PrintOptions.{PrintOptions}
+use Rattle.mix_run.specs.declared.print.Printed.{Printed}
 use Rattle.mix_run.specs.declared.print.steps.RunEnd.{RunEnd}
 use Rattle.mix_run.specs.declared.print.steps.RunEnd.TheVariants as ends
 use Rattle.mix_plan.specs.declared.plan.Plan.{Plan}
 use Rattle.mix_plan.specs.declared.plan.Plan.TheVariants as plan
 use Rattle.mix_tool.proofs.CheckLemmas.{asks-nothing}
 use Rattle.mix_tool.specs.Plan.{Given, SavesOn}
-use Rattle.mix_tool.specs.Ending.{ByEnd, Creates, EndsWith, saved_after, saved_as, status_of_end, status_of_print}
+use Rattle.mix_tool.specs.Ending.{ByEnd, Creates, EndsWith, Saves, answer_of, saved_after, saved_as, saved_by, status_of_end, status_of_print}
 
 -- some files are saved, and then others
 pub noted-both : (old : Option (List Saved)) (xs ys : List Saved) → noted (noted old xs) ys ≡ noted old (xs ++ ys)
 noted-both old [] ys = refl
 noted-both old (x ∷ xs) ys = noted-both (noted_one old x) xs ys
 
--- of two files none is named, so neither is
-pub none-named : (a b : Option (List ℕ)) → named a ++ named b ≡ [] → (named a ≡ []) × (named b ≡ [])
-none-named None b e = (refl, e)
-none-named (Some name) b e = absurd cc
-
--- all are saved, or one is not
+-- all are saved
 pub ends-saved : (names : List (List ℕ)) (status : ℕ) → EndsWith names status status
 ends-saved [] status = refl
 ends-saved (name ∷ names) status = inl refl
-
-pub ends-unsaved : (names : List (List ℕ)) (saved : Bool) (status : ℕ) → (names ≡ [] → saved ≡ true) → saved ≡ false → EndsWith names status 2
-ends-unsaved [] true status unnamed e = absurd cc
-ends-unsaved [] false status unnamed e = absurd (true-not-false (unnamed refl))
-  where
-    true-not-false : false ≡ true → ⊥
-    true-not-false e = cc
-ends-unsaved (name ∷ names) saved status unnamed e = inr refl
 
 -- what holds after a run: this if it came to its end, and else that
 abbrev pub AfterEnd : Result PrintAnswer ToolFault → Type 0 → Type 0 → Type 0
@@ -69,27 +57,28 @@ created-after names (Ok (answers.Refused fault)) old new h = h
 created-after names (Ok (answers.NoPart refusal)) old new h = h
 created-after names (Err fault) old new h = h
 
-saves-after : (run : Result PrintAnswer ToolFault) (keep svg : Option (List ℕ)) (deck kept map : List ℕ) (IsDrawn : List ℕ → Type 0) (old new : Option (List Saved))
-    → OnOk run (deck ≡ kept) → OnOk run (IsDrawn map) → new ≡ noted old (saved_after (saved_as keep deck ++ saved_as svg map) run)
-    → AfterEnd run ((m : List ℕ) × IsDrawn m × (new ≡ noted old (saved_as keep kept ++ saved_as svg m))) (new ≡ old)
-saves-after (Ok (answers.Ran ran)) keep svg deck kept map IsDrawn old new same drawn saved =
-    (map, drawn, saved ∙ ap (λ d. noted old (saved_as keep d ++ saved_as svg map)) same)
-saves-after (Ok (answers.Refused fault)) keep svg deck kept map IsDrawn old new same drawn saved = saved
-saves-after (Ok (answers.NoPart refusal)) keep svg deck kept map IsDrawn old new same drawn saved = saved
-saves-after (Err fault) keep svg deck kept map IsDrawn old new same drawn saved = saved
+saves-after : (outcome : PrintOutcome) (IsDrawn : List ℕ → Type 0) (run : Result Printed ToolFault) (keep svg : Option (List ℕ)) (a b : Option (List ℕ))
+    (old new : Option (List Saved)) → Prints outcome run a b → IfOk run (λ p. IsDrawn p.map.items) → new ≡ noted old (saved_by keep svg run)
+    → AfterEnd (answer_of run) ((m : List ℕ) × IsDrawn m × (new ≡ noted old (saved_as keep (kept_of outcome) ++ saved_as svg m))) (new ≡ old)
+saves-after outcome IsDrawn (Err fault) keep svg a b old new prints drawn saved = saved
+saves-after outcome IsDrawn (Ok printed) keep svg a b old new prints drawn saved = go printed.answer saved
+  where
+    map : List ℕ
+    map = printed.map.items
 
--- and it has saved its texts: those that a run gives of which this is asked
-pub saves-run : (options asked : PrintOptions) (names : List (List ℕ)) (run : Result PrintAnswer ToolFault) (keep svg : Option (List ℕ))
-    (kept : PrintOptions → List ℕ) (IsDrawn : PrintOptions → List ℕ → List ℕ → Type 0) (no_deck no_map deck map : List ℕ)
-    (status answered : ℕ) (old new : Option (List Saved)) → options ≡ asked → no_deck ≡ [] → no_map ≡ []
-    → OnOk run (deck ≡ no_deck ++ kept options) → OnOk run (IsDrawn options no_map map)
-    → status ≡ status_of_print run → EndsWith (saved_after names run) status answered
-    → new ≡ noted old (saved_after (saved_as keep deck ++ saved_as svg map) run)
-    → ByEnd answered ((m : List ℕ) × IsDrawn asked [] m × (new ≡ noted old (saved_as keep (kept asked) ++ saved_as svg m))) (new ≡ old)
-saves-run options asked names run keep svg kept IsDrawn no_deck no_map deck map status answered old new same deck_none map_none same_deck drawn e end saved =
-    let deck_kept = subst (λ (o : PrintOptions). OnOk run (deck ≡ kept o)) same (subst (λ (l : List ℕ). OnOk run (deck ≡ l ++ kept options)) deck_none same_deck) in
-    let map_drawn = subst (λ (o : PrintOptions). OnOk run (IsDrawn o [] map)) same (subst (λ (l : List ℕ). OnOk run (IsDrawn options l map)) map_none drawn) in
-    by-end names run status answered _ _ e end (saves-after run keep svg deck (kept asked) map (IsDrawn asked []) old new deck_kept map_drawn saved)
+    go : (answer : PrintAnswer) → new ≡ noted old (saved_after (saved_as keep printed.deck.items ++ saved_as svg map) (Ok answer))
+        → AfterEnd (Ok answer) ((m : List ℕ) × IsDrawn m × (new ≡ noted old (saved_as keep (kept_of outcome) ++ saved_as svg m))) (new ≡ old)
+    go (answers.Ran ran) is = (map, drawn, is ∙ ap (λ (d : List ℕ). noted old (saved_as keep d ++ saved_as svg map)) (sym (ap kept_of prints.0)))
+    go (answers.Refused fault) is = is
+    go (answers.NoPart refusal) is = is
+
+-- and it has saved its texts
+pub saves-run : (outcome : PrintOutcome) (IsDrawn : List ℕ → Type 0) (names : List (List ℕ)) (run : Result Printed ToolFault) (keep svg : Option (List ℕ))
+    (a b : Option (List ℕ)) (status answered : ℕ) (old new : Option (List Saved)) → Prints outcome run a b → IfOk run (λ p. IsDrawn p.map.items)
+    → status ≡ status_of_print (answer_of run) → EndsWith (saved_after names (answer_of run)) status answered → new ≡ noted old (saved_by keep svg run)
+    → Saves outcome IsDrawn keep svg answered old new
+saves-run outcome IsDrawn names run keep svg a b status answered old new prints drawn e end saved =
+    by-end names (answer_of run) status answered _ _ e end (saves-after outcome IsDrawn run keep svg a b old new prints drawn saved)
 
 -- and it has created its files
 pub creates-run : (names : List (List ℕ)) (run : Result PrintAnswer ToolFault) (status answered : ℕ) (old new : Option (List (List ℕ)))

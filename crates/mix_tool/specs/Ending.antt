@@ -1,14 +1,15 @@
 -- How the program ends: its status, and what stands on its error output.
-use Rattle.std.specs.Prelude.{◌≡◌, ◌⊎◌, ◌+◌, ℕ, zero, suc, Option, None, Some, List, [], ◌∷◌, ◌++◌, Result, Ok, Err, codes}
+use Rattle.std.specs.Prelude.{◌≡◌, ◌⊎◌, ◌+◌, ◌==◌, ℕ, zero, suc, Option, None, Some, List, [], ◌∷◌, ◌++◌, Result, Ok, Err, codes, if◌then◌else◌}
 use Rattle.std.specs.Io.KnownBytes.{Appends, Keeps}
 use Rattle.mix_stream.specs.Stream.{AppendsFront}
 use Rattle.mix_run.specs.Bundle.{OriginValue}
 use Rattle.mix_run.specs.Fault.{tool_fault_text}
 use Rattle.mix_run.specs.Output.{Meets, Outcome}
-use Rattle.mix_run.specs.PrintOutput.{PrintOutcome, Prints, kept_of}
+use Rattle.mix_run.specs.PrintOutput.{PrintOutcome, kept_of}
 use Rattle.mix_run.specs.Talk.{TalksWith}
 use Rattle.mix_run.specs.declared.print.PrintAnswer.{PrintAnswer}
 use Rattle.mix_run.specs.declared.print.PrintAnswer.TheVariants as answers
+use Rattle.mix_run.specs.declared.print.Printed.{Printed}
 use Rattle.mix_run.specs.declared.print.steps.RunEnd.{RunEnd}
 use Rattle.mix_run.specs.declared.print.steps.RunEnd.TheVariants as ends
 use Rattle.mix_run.specs.declared.talk.aside.Talker.{Talker}
@@ -18,7 +19,7 @@ use Rattle.mix_machine.specs.units.Units.{UnitsState}
 use Rattle.mix_machine.specs.declared.units.deck_fault.DeckFault.{DeckFault}
 use Rattle.mix_run.specs.declared.fault.ToolFault.{ToolFault}
 use Rattle.mix_run.specs.declared.fault.ToolFault.TheVariants as faults
-use Rattle.mix_run.specs.Opening.{Asks, Files, Saved, noted}
+use Rattle.mix_run.specs.Opening.{Asks, Files, Saved, WhyUnsaved, noted}
 use Rattle.mix_run.specs.Reason.{reason_text}
 use Rattle.mix_run.specs.declared.reason.Reason.{Reason}
 
@@ -43,6 +44,11 @@ report fault file = codes "mixrev: " ++ (tool_fault_text fault ++ (file_text (fi
 abbrev pub IsAmong : List (List ℕ) → List ℕ → Type 0
 IsAmong [] name = ⊥
 IsAmong (first ∷ rest) name = (name ≡ first) ⊎ IsAmong rest name
+
+-- a file, if it is named and reads of it have failed, or else another one
+abbrev pub failed_or : Option (List ℕ) → ℕ → List ℕ → List ℕ
+failed_or None failures other = other
+failed_or (Some name) failures other = if failures == 0 then other else name
 
 -- one of the files that are read; none where no file is
 abbrev pub IsFileOf : List (List ℕ) → Option (List ℕ) → Type 0
@@ -80,13 +86,15 @@ abbrev pub TellsRun : Result ℕ ToolFault → Option (List ℕ) → Option (Lis
 TellsRun (Ok status) file old new failed_old failed_new = Keeps old new × (failed_new ≡ failed_old)
 TellsRun (Err fault) file old new failed_old failed_new = Tells (report fault file) old new failed_old failed_new
 
--- what is known of the streams of a run at one moment: what the input still has, what the output and the error output were told, and how many
--- writes on the error output have failed
+-- what is known at one moment: what the input still has, what the output and the error output
+-- were told, how many writes on the error output have failed, and why the last text that was not
+-- saved was not
 pub record Seen : Type 0 where
   pub input : Option (List ℕ)
   pub out : Option (List ℕ)
   pub errors : Option (List ℕ)
   pub failed : ℕ
+  pub refusal : Option WhyUnsaved
 
 -- a run with this outcome was made on some files: what it wrote and answered is the outcome, its status is answered, and its fault is told, of a read
 -- with one of these files
@@ -117,6 +125,11 @@ abbrev pub status_of_print : Result PrintAnswer ToolFault → ℕ
 status_of_print (Ok answer) = status_of_answer answer
 status_of_print (Err fault) = 2
 
+-- what is answered of a run
+abbrev pub answer_of : Result Printed ToolFault → Result PrintAnswer ToolFault
+answer_of (Ok printed) = Ok printed.answer
+answer_of (Err fault) = Err fault
+
 -- what is saved after a run: all that is to be saved, if the run has come to its end
 abbrev pub saved_after : {A : Type 0} → List A → Result PrintAnswer ToolFault → List A
 saved_after all (Ok (answers.Ran ran)) = all
@@ -128,11 +141,6 @@ saved_after all (Err fault) = []
 abbrev pub EndsWith : List (List ℕ) → ℕ → ℕ → Type 0
 EndsWith [] status answered = answered ≡ status
 EndsWith (name ∷ names) status answered = (answered ≡ status) ⊎ (answered ≡ 2)
-
--- a run was made: what it printed and answered is the outcome, and its status is answered, where these files are created for it
-abbrev pub PrintRuns : PrintOutcome → List (List ℕ) → ℕ → Option (List ℕ) → Option (List ℕ) → Type 0
-PrintRuns outcome names status old new =
-    (run : Result PrintAnswer ToolFault) × Prints outcome run old new × EndsWith (saved_after names run) (status_of_print run) status
 
 -- what holds by the status of a run: this if the run has come to its end, and else that; 2 leaves open which
 abbrev pub ByEnd : ℕ → Type 0 → Type 0 → Type 0
@@ -149,6 +157,11 @@ Creates names status old new = ByEnd status (Asks old new names) (Asks old new [
 abbrev pub saved_as : Option (List ℕ) → List ℕ → List Saved
 saved_as None text = []
 saved_as (Some name) text = (name, text) ∷ []
+
+-- what is saved of what a run leaves, if it has come to its end
+abbrev pub saved_by : Option (List ℕ) → Option (List ℕ) → Result Printed ToolFault → List Saved
+saved_by keep svg (Ok printed) = saved_after (saved_as keep printed.deck.items ++ saved_as svg printed.map.items) (Ok printed.answer)
+saved_by keep svg (Err fault) = []
 
 -- what a run saves, if it has come to its end: in one file the deck of what its units hold, and in another one its map
 abbrev pub Saves : PrintOutcome → (List ℕ → Type 0) → Option (List ℕ) → Option (List ℕ) → ℕ → Option (List Saved) → Option (List Saved) → Type 0

@@ -1,3 +1,4 @@
 pub mod Ending
 pub mod Plan
 pub mod Shelf
+pub mod Told

@@ -27,8 +27,9 @@ use Rattle.mix_run.specs.declared.table.TableFormat.{TableFormat as RunFormat}
 use Rattle.mix_run.specs.declared.table.TableFormat.TheVariants as table
 use Rattle.mix_run.specs.declared.talk.Streams.{Streams}
 use Rattle.mix_run.specs.declared.talk.aside.Talker.{Talker}
-use Rattle.mix_tool.specs.Ending.{PrintRuns, Runs, Saves, Seen, TalkRuns, Tells, not_opened, saved_as}
-use Rattle.mix_run.specs.Opening.{Files, Missing, Saved, missing_of, named, opened_text, text_of}
+use Rattle.mix_tool.specs.Ending.{Runs, Saves, Seen, TalkRuns, Tells, not_opened}
+use Rattle.mix_tool.specs.Told.{PrintRuns}
+use Rattle.mix_run.specs.Opening.{Files, Missing, Saved, WhyUnsaved, missing_of, named, opened_text, text_of}
 use Rattle.mix_tool.specs.declared.texts.Names.{Names}
 use Rattle.mix_tool.specs.declared.texts.Texts.{Texts}
 
@@ -176,19 +177,22 @@ abbrev pub run_output : RunPlan → Given → PrintOutcome
 run_output run given = print_output (options_of run) (part_of (option_map string_bytes run.part)) given.source given.deck given.cards given.typewriter
 
 abbrev pub run_draws : RunPlan → Given → List ℕ → Type 0
-run_draws run given = Draws (options_of run) (part_of (option_map string_bytes run.part)) given.source given.deck given.cards given.typewriter []
+run_draws run given = Draws (options_of run) (part_of (option_map string_bytes run.part)) given.source given.deck given.cards given.typewriter
 
 -- the files in which a run saves the deck of its units and its map
 abbrev pub saved_names : RunPlan → List (List ℕ)
 saved_names run = named (option_map string_bytes run.keep) ++ named (option_map string_bytes run.svg)
 
--- and what it saves there
-abbrev pub saved_texts : RunPlan → List ℕ → List ℕ → List Saved
-saved_texts run deck map = saved_as (option_map string_bytes run.keep) deck ++ saved_as (option_map string_bytes run.svg) map
+-- the files that a run reads
+abbrev pub names_of_run : RunPlan → List (List ℕ)
+names_of_run run =
+    string_bytes run.source ∷ (named (option_map string_bytes run.devices) ++ named (option_map string_bytes run.cards))
+    ++ named (option_map string_bytes run.typewriter)
 
--- what is seen of some streams
-abbrev pub seen : {R W E : Type 0} → (R → Option (List ℕ)) → (W → Option (List ℕ)) → (E → Option (List ℕ)) → (E → ℕ) → Streams R W E → Seen
-seen rest told errors failed s = record { input = rest s.input; out = told s.out; errors = errors s.errors; failed = failed s.errors }
+-- what is seen of some streams, and of what opens files
+abbrev pub seen : {R W E : Type 0} → (R → Option (List ℕ)) → (W → Option (List ℕ)) → (E → Option (List ℕ)) → (E → ℕ) → Option WhyUnsaved → Streams R W E → Seen
+seen rest told errors failed refusal s =
+    record { input = rest s.input; out = told s.out; errors = errors s.errors; failed = failed s.errors; refusal = refusal }
 
 -- the files that a session reads
 abbrev pub names_of_session : List ℕ → Option (List ℕ) → Option (List ℕ) → List (List ℕ)
@@ -222,7 +226,9 @@ RunsOn all (plan.List source) given talker status before after = Runs (string_by
 RunsOn all (plan.Check sources json) given talker status before after =
     Runs (map string_bytes sources.items) (check_output json (named_of all (map string_bytes sources.items))) status before after
 RunsOn all (plan.Debug session) given talker status before after = DebugsOn all session given talker status before after
-RunsOn all (plan.Run run) given talker status before after = PrintRuns (run_output run given) (saved_names run) status before.out after.out
+RunsOn all (plan.Run run) given talker status before after =
+    PrintRuns (run_output run given) (names_of_run run) (string_bytes run.source) (part_of (option_map string_bytes run.part)) (option_map string_bytes run.keep)
+    (option_map string_bytes run.svg) status before after
 RunsOn all plan.Dap given talker status before after = status ≤ 2
 RunsOn all plan.Lsp given talker status before after = status ≤ 2
 

@@ -93,8 +93,8 @@ pub(crate) fn check_files<O: Opener, R: In, W: Out, E: Out>(
         → Asks (O.asked files.old) (O.asked files.new) (asked_of all (map string_bytes sources.now)) }
     ensures done { (all : Files) → O.holds files.old ≡ Some all → let names = map string_bytes sources.now in
         DoneAfter (missing_of all names)
-        (Runs names (check_output json (named_of all names)) result (seen R.rest W.told E.told E.failed streams.old) (seen R.rest W.told E.told E.failed streams.new))
-        result (seen R.rest W.told E.told E.failed streams.old) (seen R.rest W.told E.told E.failed streams.new) }
+        (Runs names (check_output json (named_of all names)) result (seen R.rest W.told E.told E.failed (O.refusal files.old) streams.old) (seen R.rest W.told E.told E.failed (O.refusal files.new) streams.new))
+        result (seen R.rest W.told E.told E.failed (O.refusal files.old) streams.old) (seen R.rest W.told E.told E.failed (O.refusal files.new) streams.new) }
     ensures input { streams.new.input ≡ streams.old.input }
     ensures range { result ≤ 3 }
     ensures written { result ≢ 2 → W.failed streams.new.out ≡ W.failed streams.old.out }

@@ -7,11 +7,12 @@ ghost use Rattle.mix_tool.specs.Plan.{AreFresh, DebugsOn, Given, HoldTexts, is_t
 use crate::ending::{status, status_beside, unread};
 use crate::texts::Texts;
 use mix_plan::DebugPlan;
-use mix_run::{Opener, Streams, run_debug, run_talk};
+use mix_run::{DebugOptions, Opener, Streams, run_debug, run_talk};
 use mix_stream::{In, Out};
 use std::alloc::Global;
 
-/// A session by a script, or without one by the lines of the input, with the deck that is named, or with that of a bundle.
+/// A session by a script, or without one by the lines of the input, with the deck that is named, or
+/// with that of a bundle.
 pub(crate) fn debug_on<O: Opener, R: In, W: Out, E: Out>(
     files: &mut O,
     alloc: Global,
@@ -24,7 +25,7 @@ pub(crate) fn debug_on<O: Opener, R: In, W: Out, E: Out>(
     requires out_count { W.failed streams.old.out < 2 ^ 64 - 1 }
     requires errors_count { E.failed streams.old.errors < 2 ^ 64 - 1 }
     ensures runs { (all : Files) (given : Given) → O.holds files.old ≡ Some all → HoldTexts O.Reader.rest texts given
-        → DebugsOn all plan.now given streams.old.talker result (seen R.rest W.told E.told E.failed streams.old) (seen R.rest W.told E.told E.failed streams.new) }
+        → DebugsOn all plan.now given streams.old.talker result (seen R.rest W.told E.told E.failed (O.refusal files.old) streams.old) (seen R.rest W.told E.told E.failed (O.refusal files.new) streams.new) }
     ensures input { is_talk plan.now.script ≡ false → streams.new.input ≡ streams.old.input }
     ensures unasked { O.asked files.new ≡ O.asked files.old }
     ensures range { result ≤ 3 }
@@ -42,15 +43,9 @@ pub(crate) fn debug_on<O: Opener, R: In, W: Out, E: Out>(
     let (name, given) = (plan.source.as_str(), plan.devices.is_some());
     match &plan.script {
         Some(_) => {
-            let outcome = run_debug(
-                alloc,
-                &mut source,
-                &mut deck,
-                given,
-                &mut lines,
-                plan.echo,
-                &mut streams.out,
-            );
+            let (out, echo) = (&mut streams.out, plan.echo);
+            let options = DebugOptions { deck: given, echo };
+            let outcome = run_debug(alloc, &mut source, &mut deck, &mut lines, options, out);
             let failures = (deck.failures(), lines.failures());
             let (deck, last) = (plan.devices.as_deref(), plan.script.as_deref());
             let file = unread(name, deck, last, failures);

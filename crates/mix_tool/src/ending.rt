@@ -1,14 +1,12 @@
 //! How a run ends: its status, and what is told on the error output.
 
-ghost use Rattle.std.specs.Prelude.{◌≡◌, ◌<◌, ◌-◌, ◌^◌, ◌∷◌, ◌++◌, IfOk, OnOk, MatchResult, option_map, string_bytes};
-ghost use Rattle.mix_tool.specs.Ending.{IsAmong, Tells, TellsRun, Wrote, file_of_fault, memory_line, not_opened, not_written, report, status_of_end, status_of_print, status_of_run};
+ghost use Rattle.std.specs.Prelude.{◌≡◌, ◌<◌, ◌-◌, ◌^◌, ◌∷◌, ◌++◌, IfErr, IfOk, OnOk, MatchResult, option_map, string_bytes};
+ghost use Rattle.mix_tool.specs.Ending.{IsAmong, Tells, TellsRun, Wrote, failed_or, file_of_fault, memory_line, not_opened, not_written, report, status_of_run};
+ghost use Rattle.mix_tool.specs.Told.{TellsBeside, WroteBeside, beside};
 ghost use Rattle.mix_run.specs.Opening.{named};
 
-use crate::asked::part_of;
-use crate::conflicts::{conflict_line, tell_conflicts};
 use mix_cli::FAILED;
-use mix_plan::RunPlan;
-use mix_run::{DONE, NOT_DONE, PrintAnswer, RanTo, Reason, RunEnd, SOURCE_REFUSED, ToolFault};
+use mix_run::{Reason, ToolFault};
 use mix_stream::{Out, write_all};
 use std::alloc::{AllocError, Global};
 
@@ -42,7 +40,9 @@ pub(crate) fn unread<'n>(
     last: Option<&'n str>,
     failures: (u64, u64),
 ) -> &'n str
-    ensures { IsAmong (source.now ∷ (named (option_map (λ n. n.now) deck.entry) ++ named (option_map (λ n. n.now) last.entry))) result.now }
+    ensures among { IsAmong (source.now ∷ (named (option_map (λ n. n.now) deck.entry) ++ named (option_map (λ n. n.now) last.entry))) result.now }
+    ensures failed { result.now ≡
+        failed_or (option_map (λ n. n.now) deck.entry) failures.0 (failed_or (option_map (λ n. n.now) last.entry) failures.1 source.now) }
 {
     let (of_deck, of_last) = (failures.0 > 0, failures.1 > 0);
     match (deck, last) {
@@ -141,7 +141,11 @@ pub(crate) fn status<E: Out>(
 }
 
 /// A line is told beside what a run writes, or that memory is refused for it; where a write there has failed, nothing more is.
-pub(crate) fn tell_beside<E: Out>(line: Result<String, AllocError>, errors: &mut E) {
+pub(crate) fn tell_beside<E: Out>(line: Result<String, AllocError>, errors: &mut E)
+    ensures { MatchResult line
+        (λ s. WroteBeside (string_bytes s) (beside E.told E.failed errors.old) (beside E.told E.failed errors.new))
+        (λ _. WroteBeside memory_line (beside E.told E.failed errors.old) (beside E.told E.failed errors.new)) }
+{
     if errors.failures() == 0 {
         tell(line, errors);
     }
@@ -154,7 +158,9 @@ pub(crate) fn status_beside<E: Out>(
     file: Option<&str>,
     errors: &mut E,
 ) -> u8
-    ensures { result ≡ status_of_run outcome }
+    ensures status { result ≡ status_of_run outcome }
+    ensures told { IfErr outcome (λ fault.
+        TellsBeside (report fault (option_map (λ n. n.now) file.entry)) (beside E.told E.failed errors.old) (beside E.told E.failed errors.new)) }
 {
     match outcome {
         Ok(status) => status,
@@ -163,75 +169,4 @@ pub(crate) fn status_beside<E: Out>(
             FAILED
         }
     }
-}
-
-// Where a run came to, if not to a halt: `prog.mixal:3: M8 negative shift at 0002 clock 5`.
-fn came_to(alloc: Global, name: &str, ran: RanTo) -> Result<String, AllocError> {
-    let place = place(alloc, name, ran.line)?;
-    let (loc, clock) = (ran.loc, ran.clock);
-    match ran.end {
-        RunEnd::Faulted(fault) => format!(in alloc; "{place}: {fault} at {loc:04} clock {clock}\n"),
-        RunEnd::Conflicting(conflict) => {
-            conflict_line(alloc, place.as_str(), "error", (loc, clock), conflict)
-        }
-        RunEnd::Halted | RunEnd::UsedUp => {
-            format!(in alloc; "{place}: steps used up at {loc:04} clock {clock}\n")
-        }
-    }
-}
-
-/// The name of a source, with the number of a line if there is one.
-pub(crate) fn place(alloc: Global, name: &str, line: Option<u32>) -> Result<String, AllocError> {
-    match line {
-        Some(line) => format!(in alloc; "{name}:{line}"),
-        None => String::from_str(alloc, name),
-    }
-}
-
-// The status of a run that came to its end.
-fn status_of_end(end: RunEnd) -> u8
-    ensures { result ≡ status_of_end end }
-{
-    match end {
-        RunEnd::Halted => DONE,
-        RunEnd::Faulted(_) | RunEnd::Conflicting(_) | RunEnd::UsedUp => NOT_DONE,
-    }
-}
-
-/// The status of what a run answers; why the part of its table is none is told; which of its steps conflict with a transfer is told, where it came to, if not to a halt, and a fault is.
-pub(crate) fn print_status<E: Out>(
-    alloc: Global,
-    plan: &RunPlan,
-    outcome: Result<PrintAnswer, ToolFault>,
-    file: Option<&str>,
-    errors: &mut E,
-) -> u8
-    ensures { result ≡ status_of_print outcome }
-{
-    match outcome {
-        Err(fault) => status_beside(alloc, Err(fault), file, errors),
-        Ok(PrintAnswer::Refused(_)) => SOURCE_REFUSED,
-        Ok(PrintAnswer::NoPart(refusal)) => {
-            let part = part_of(&plan.part);
-            let line = format!(in alloc; "mixrev: {refusal}: {part}\n");
-            tell_beside(line, errors);
-            FAILED
-        }
-        Ok(PrintAnswer::Ran(ran)) => ran_status(alloc, plan.source.as_str(), &ran, errors),
-    }
-}
-
-// The same of a run that came to its end.
-fn ran_status<E: Out>(alloc: Global, name: &str, ran: &RanTo, errors: &mut E) -> u8
-    ensures { result ≡ status_of_end ran.now.end }
-{
-    tell_conflicts(alloc, name, ran, errors);
-    let end = ran.end;
-    match end {
-        RunEnd::Halted => {}
-        RunEnd::Faulted(_) | RunEnd::Conflicting(_) | RunEnd::UsedUp => {
-            tell_beside(came_to(alloc, name, *ran), errors)
-        }
-    }
-    status_of_end(end)
 }

@@ -1,24 +1,23 @@
 //! What the units hold at the end of a run, and its map, each saved in a file.
 
-ghost use Rattle.std.specs.Prelude.{◌≡◌, ◌≢◌, ◌≤◌, [], true, option_map, string_bytes};
-ghost use Rattle.mix_run.specs.Opening.{Asks, named, noted};
-ghost use Rattle.mix_tool.specs.Ending.{EndsWith, saved_after, saved_as};
-ghost use Rattle.mix_tool.specs.Plan.{saved_names, saved_texts};
+ghost use Rattle.std.specs.Prelude.{◌≡◌, ◌≢◌, ◌≤◌, IfOk, OnOk, option_map, string_bytes};
+ghost use Rattle.mix_run.specs.Opening.{Asks, named, noted, refused_by};
+ghost use Rattle.mix_tool.specs.Ending.{EndsWith, answer_of, saved_after, saved_as, saved_by};
+ghost use Rattle.mix_tool.specs.Plan.{saved_names};
+ghost use Rattle.mix_tool.specs.Told.{IsRefusable, SavesTold, TellsAll, beside, save_told, unsaved_line};
 
 use crate::ending::{not_opened_line, not_written_line, tell_beside};
 use mix_cli::FAILED;
 use mix_plan::RunPlan;
 use mix_refused::Refused;
-use mix_run::{Opener, PrintAnswer, ToolFault, Unsaved};
+use mix_run::{Opener, PrintAnswer, Printed, ToolFault, Unsaved};
 use mix_stream::Out;
 use std::alloc::{AllocError, Global};
 
 // What prevents that a text is saved.
-fn unsaved_line(
-    alloc: Global,
-    name: &str,
-    refused: Refused<Unsaved>,
-) -> Result<String, AllocError> {
+fn unsaved_line(alloc: Global, name: &str, refused: Refused<Unsaved>) -> Result<String, AllocError>
+    ensures { IfOk result (λ s. string_bytes s ≡ unsaved_line name.now refused) }
+{
     match refused {
         Refused::Memory => Err(AllocError),
         Refused::Fault(Unsaved::NotOpened(reason)) => not_opened_line(alloc, name, reason),
@@ -27,85 +26,68 @@ fn unsaved_line(
 }
 
 // Saves a text in a file, if one is named for it. What prevents that is told.
-fn is_saved<O: Opener, E: Out>(
+fn save_named<O: Opener, E: Out>(
     files: &mut O,
     alloc: Global,
     name: &Option<String>,
     text: &[u8],
     errors: &mut E,
-) -> bool
+) -> Result<(), Refused<Unsaved>>
     ensures created { Asks (O.created files.old) (O.created files.new) (named (option_map string_bytes name.now)) }
     ensures saved { O.saved files.new ≡ noted (O.saved files.old) (saved_as (option_map string_bytes name.now) text.now) }
     ensures asked { O.asked files.new ≡ O.asked files.old }
-    ensures unnamed { named (option_map string_bytes name.now) ≡ [] → result ≡ true }
-    ensures quiet { result ≡ true → errors.new ≡ errors.old }
+    ensures refused { O.refusal files.new ≡ refused_by (O.refusal files.old) result }
+    ensures refusable { IsRefusable (option_map string_bytes name.now) result }
+    ensures told { TellsAll (save_told (option_map string_bytes name.now) result) (beside E.told E.failed errors.old) (beside E.told E.failed errors.new) }
+    ensures quiet { OnOk result (errors.new ≡ errors.old) }
 {
     match name {
-        None => true,
+        None => Ok(()),
         Some(name) => match files.save(alloc, name.as_bytes(), text) {
-            Ok(()) => true,
+            Ok(()) => Ok(()),
             Err(refused) => {
-                tell_beside(unsaved_line(alloc, name, refused), errors);
-                false
+                let why = refused;
+                tell_beside(unsaved_line(alloc, name, why), errors);
+                Err(refused)
             }
         },
     }
 }
 
-/// What a run leaves: what it answered, with its status, the deck of what its units hold, and its map.
-#[derive(Drop)]
-pub(crate) struct Left {
-    pub(crate) outcome: Result<PrintAnswer, ToolFault>,
-    pub(crate) status: u8,
-    pub(crate) deck: Vec<u8>,
-    pub(crate) map: Vec<u8>,
-}
-
-// Saves both texts of a run; the map is saved even if the deck is not.
-fn are_saved<O: Opener, E: Out>(
-    files: &mut O,
-    alloc: Global,
-    plan: &RunPlan,
-    left: &Left,
-    errors: &mut E,
-) -> bool
-    ensures created { Asks (O.created files.old) (O.created files.new) (saved_names plan.now) }
-    ensures saved { O.saved files.new ≡ noted (O.saved files.old) (saved_texts plan.now left.now.deck.items left.now.map.items) }
-    ensures asked { O.asked files.new ≡ O.asked files.old }
-    ensures unnamed { saved_names plan.now ≡ [] → result ≡ true }
-    ensures quiet { result ≡ true → errors.new ≡ errors.old }
-{
-    let kept = is_saved(files, alloc, &plan.keep, &left.deck, errors);
-    let drawn = is_saved(files, alloc, &plan.svg, &left.map, errors);
-    kept && drawn
-}
-
-/// Saves the deck and the map of a run that has come to its end, each in a file, if one is named for it. The status is that of the
-/// run, or 2 if one of them is not saved.
+/// Saves the deck and the map of a run that has come to its end, each in a file, if one is named
+/// for it; the map is saved even if the deck is not. The status is that of the run, or 2 if one of
+/// them is not saved, which is told.
 pub(crate) fn save_files<O: Opener, E: Out>(
     files: &mut O,
     alloc: Global,
     plan: &RunPlan,
-    left: &Left,
+    printed: &Result<Printed, ToolFault>,
+    status: u8,
     errors: &mut E,
 ) -> u8
-    ensures created { Asks (O.created files.old) (O.created files.new) (saved_after (saved_names plan.now) left.now.outcome) }
+    ensures created { Asks (O.created files.old) (O.created files.new) (saved_after (saved_names plan.now) (answer_of printed.now)) }
     ensures saved { O.saved files.new
-        ≡ noted (O.saved files.old) (saved_after (saved_texts plan.now left.now.deck.items left.now.map.items) left.now.outcome) }
+        ≡ noted (O.saved files.old) (saved_by (option_map string_bytes plan.now.keep) (option_map string_bytes plan.now.svg) printed.now) }
     ensures asked { O.asked files.new ≡ O.asked files.old }
-    ensures status { EndsWith (saved_after (saved_names plan.now) left.now.outcome) left.now.status result }
-    ensures range { left.now.status ≤ 3 → result ≤ 3 }
-    ensures well { result ≢ 2 → (result ≡ left.now.status) × (errors.new ≡ errors.old) }
+    ensures status { EndsWith (saved_after (saved_names plan.now) (answer_of printed.now)) status result }
+    ensures told { SavesTold (answer_of printed.now) (option_map string_bytes plan.now.keep) (option_map string_bytes plan.now.svg) status result
+        (O.refusal files.old) (O.refusal files.new) (beside E.told E.failed errors.old) (beside E.told E.failed errors.new) }
+    ensures range { status ≤ 3 → result ≤ 3 }
+    ensures well { result ≢ 2 → (result ≡ status) × (O.refusal files.new ≡ O.refusal files.old) }
 {
-    let outcome = left.outcome;
-    match outcome {
-        Ok(PrintAnswer::Ran(_)) => {
-            if are_saved(files, alloc, plan, left, errors) {
-                left.status
-            } else {
-                FAILED
+    match printed {
+        Ok(printed) => match printed.answer {
+            PrintAnswer::Ran(_) => {
+                let kept = save_named(files, alloc, &plan.keep, &printed.deck, errors);
+                let drawn = save_named(files, alloc, &plan.svg, &printed.map, errors);
+                match (kept, drawn) {
+                    (Ok(()), Ok(())) => status,
+                    (Err(_), _) | (_, Err(_)) => FAILED,
+                }
             }
-        }
-        Ok(PrintAnswer::Refused(_) | PrintAnswer::NoPart(_)) | Err(_) => left.status,
+            PrintAnswer::Refused(_) => status,
+            PrintAnswer::NoPart(_) => status,
+        },
+        Err(_) => status,
     }
 }

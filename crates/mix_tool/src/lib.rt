@@ -8,6 +8,7 @@ mod debug;
 mod ending;
 mod keep;
 mod plan;
+mod ran;
 mod run;
 mod save;
 pub mod shelf;

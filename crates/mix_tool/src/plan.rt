@@ -36,11 +36,12 @@ fn run_on<O: Opener + Library, C: In, R: In, W: Out, E: Out>(
     requires input_count { R.failed streams.old.input < 2 ^ 64 - 1 }
     requires out_count { W.failed streams.old.out < 2 ^ 64 - 1 }
     requires errors_count { E.failed streams.old.errors < 2 ^ 64 - 1 }
+    ensures all_saved { (names : List (List ℕ)) → creates_of plan.now ≡ Some names → result ≢ 2 → O.refusal files.new ≡ O.refusal files.old }
     ensures opened { (all : Files) → O.holds files.old ≡ Some all → Asks (O.asked files.old) (O.asked files.new) (asked_of all (sources_of plan.now)) }
     ensures done { (all : Files) (given : Given) → O.holds files.old ≡ Some all → HoldTexts O.Reader.rest texts given
         → DoneAfter (missing_of all (sources_of plan.now))
-        (RunsOn all plan.now given streams.old.talker result (seen R.rest W.told E.told E.failed streams.old) (seen R.rest W.told E.told E.failed streams.new))
-        result (seen R.rest W.told E.told E.failed streams.old) (seen R.rest W.told E.told E.failed streams.new) }
+        (RunsOn all plan.now given streams.old.talker result (seen R.rest W.told E.told E.failed (O.refusal files.old) streams.old) (seen R.rest W.told E.told E.failed (O.refusal files.new) streams.new))
+        result (seen R.rest W.told E.told E.failed (O.refusal files.old) streams.old) (seen R.rest W.told E.told E.failed (O.refusal files.new) streams.new) }
     ensures created { (names : List (List ℕ)) → creates_of plan.now ≡ Some names → Creates names result (O.created files.old) (O.created files.new) }
     ensures saved { (given : Given) → HoldTexts O.Reader.rest texts given → SavesOn plan.now given result (O.saved files.old) (O.saved files.new) }
     ensures input { reads_input plan.now ≡ false → streams.new.input ≡ streams.old.input }
@@ -77,10 +78,7 @@ fn run_on<O: Opener + Library, C: In, R: In, W: Out, E: Out>(
         }
         Plan::Check { sources, json } => check_files(files, alloc, sources, *json, streams),
         Plan::Debug(session) => debug_on(files, alloc, session, texts, streams),
-        Plan::Run(run) => {
-            let (out, errors) = (&mut streams.out, &mut streams.errors);
-            run_texts(files, alloc, run, texts, out, errors)
-        }
+        Plan::Run(run) => run_texts(files, alloc, run, texts, streams),
         Plan::Dap => {
             let (out, errors) = (&mut streams.out, &mut streams.errors);
             serve_from(files, alloc, client, out, errors)
@@ -119,8 +117,8 @@ pub fn run_plan<O: Opener + Library, C: In, R: In, W: Out, E: Out>(
 
     // That one is told, or else the run of the plan is made on the texts of its files, and its status is answered.
     ensures done { (all : Files) → O.holds files.old ≡ Some all
-        → IsDone all plan.now streams.old.talker result (seen R.rest W.told E.told E.failed streams.old)
-        (seen R.rest W.told E.told E.failed streams.new) }
+        → IsDone all plan.now streams.old.talker result (seen R.rest W.told E.told E.failed (O.refusal files.old) streams.old)
+        (seen R.rest W.told E.told E.failed (O.refusal files.new) streams.new) }
 
     // A run creates the files that its units are kept and its map is drawn in, when it has come to its end, and no other.
     ensures created { (names : List (List ℕ)) → creates_of plan.now ≡ Some names → Creates names result (O.created files.old) (O.created files.new) }
@@ -128,6 +126,9 @@ pub fn run_plan<O: Opener + Library, C: In, R: In, W: Out, E: Out>(
     // There it saves the deck of what its units hold, and its map.
     ensures saved { (all : Files) → O.holds files.old ≡ Some all
         → SavesOn plan.now (given_of all (names_of plan.now)) result (O.saved files.old) (O.saved files.new) }
+
+    // A run whose status is not 2 has saved both. What prevents that is told, by `done`.
+    ensures all_saved { (names : List (List ℕ)) → creates_of plan.now ≡ Some names → result ≢ 2 → O.refusal files.new ≡ O.refusal files.old }
 
     // Of a plan whose texts are all files the input is not read.
     ensures input { reads_input plan.now ≡ false → streams.new.input ≡ streams.old.input }

@@ -73,6 +73,8 @@ impl<'a> Opener for Shelf<'a> {
     // What is saved is not kept.
     ghost saved = { λ _. None };
 
+    ghost refusal = { λ _. None };
+
     fn open(&mut self, name: &str) -> Result<Chunks<'a>, Reason> {
         note(self.alloc, &mut self.asked, name);
         match text_in(self.files, name.as_bytes()) {

@@ -1,32 +1,43 @@
 //! The files of a system, and standard input under the name `-`.
 
-ghost use Rattle.std.specs.Prelude.{None};
+ghost use Rattle.std.specs.Prelude.{◌≡◌, ℕ, List, None, Some, Err, IfErr, IfOk, IsOk, take};
+ghost use Rattle.std.specs.Fs.{IsDir, file_type};
 
 use crate::save::save_file;
 use mix_dap::{Fault, FileLibrary, Library};
 use mix_refused::Refused;
 use mix_run::{Opener, Reason, Unread, Unsaved};
-use mix_stream::{Counted, read_up_to};
+use mix_stream::{Counted, In, read_up_to};
 use std::alloc::Global;
-use std::fs::{self, OpenFile};
+use std::fs::{self, Metadata, OpenFile};
 use std::io::{self, Input, Print, Read};
 use std::rt::Files;
 
-/// The files of a system. What they hold is known only when they are read; what is written to them is not followed.
+/// The files of a system. What they hold is known only when they are read; of what is written to
+/// them is known why the last text that was not saved was not.
 pub struct SystemFiles<'f, F: Files> {
     files: &'f F,
+    refusal: Option<Refused<Unsaved>>,
 }
 
 impl<F: Files> Drop for SystemFiles<'_, F> {
     fn drop(self) {
-        let SystemFiles { files: _ } = self;
+        let SystemFiles {
+            files: _,
+            refusal: _,
+        } = self;
     }
 }
 
 impl<'f, F: Files> SystemFiles<'f, F> {
     /// The files that a runtime reaches.
-    pub fn of(files: &'f F) -> SystemFiles<'f, F> {
-        SystemFiles { files }
+    pub fn of(files: &'f F) -> SystemFiles<'f, F>
+        ensures { result.refusal ≡ None }
+    {
+        SystemFiles {
+            files,
+            refusal: None,
+        }
     }
 }
 
@@ -59,20 +70,17 @@ impl<F: Files + Input + Print> Opener for SystemFiles<'_, F> {
 
     ghost saved = { λ _. None };
 
+    ghost refusal = { λ s. s.refusal };
+
     fn open(&mut self, name: &str) -> Result<Counted<Opened<F::File, F::Reader>>, Reason> {
         if name == "-" {
-            return match fs::metadata(self.files, "/dev/stdin") {
-                Ok(about) if about.is_dir() => Err(Reason::Folder),
-                Ok(_) | Err(_) => Ok(Counted::of(Opened::Input(self.files.reader()))),
-            };
+            let about = fs::metadata(self.files, "/dev/stdin");
+            return unless_folder(Opened::Input(self.files.reader()), about);
         }
         match fs::open(self.files, name) {
             Ok(file) => {
-                if is_folder(&file) {
-                    Err(Reason::Folder)
-                } else {
-                    Ok(Counted::of(Opened::File(file)))
-                }
+                let about = file.metadata();
+                unless_folder(Opened::File(file), about)
             }
             Err(error) => Err(Reason::of(error.kind())),
         }
@@ -86,22 +94,19 @@ impl<F: Files + Input + Print> Opener for SystemFiles<'_, F> {
     ) -> Result<Vec<u8>, Refused<Unread>> {
         match str::from_utf8(name) {
             Err(_) => Err(Refused::Fault(Unread::NotOpened(Reason::Other))),
-            Ok(name) => match self.open(name) {
-                Ok(mut file) => match read_up_to(alloc, &mut file, most) {
-                    Ok(text) => Ok(text),
-                    Err(Refused::Memory) => Err(Refused::Memory),
-                    Err(Refused::Fault(_)) => Err(Refused::Fault(Unread::NotRead)),
-                },
-                Err(reason) => Err(Refused::Fault(Unread::NotOpened(reason))),
-            },
+            Ok(name) => text_of(alloc, self.open(name), most),
         }
     }
 
     fn save(&mut self, alloc: Global, name: &[u8], text: &[u8]) -> Result<(), Refused<Unsaved>> {
-        match str::from_utf8(name) {
+        let went = match str::from_utf8(name) {
             Err(_) => Err(Refused::Fault(Unsaved::NotOpened(Reason::Other))),
             Ok(name) => save_file(self.files, alloc, name, text),
+        };
+        if let Err(why) = went {
+            self.refusal = Some(why);
         }
+        went
     }
 }
 
@@ -114,10 +119,37 @@ impl<F: Files> Library for SystemFiles<'_, F> {
     }
 }
 
-// A folder can be opened, but not read.
-fn is_folder<F: OpenFile>(file: &F) -> bool {
-    match file.metadata() {
-        Ok(about) => about.is_dir(),
-        Err(_) => false,
+// What was opened, unless it is a folder: that a system opens too, but it can't be read.
+fn unless_folder<T: Drop>(opened: T, about: io::Result<Metadata>) -> Result<Counted<T>, Reason>
+    ensures folder { IfOk about (λ m. IsDir (file_type m) → result ≡ Err Reason.Folder) }
+    ensures file { IfOk about (λ m. (IsDir (file_type m) → ⊥) → IsOk result) }
+    ensures fresh { IfOk result (λ r. (r.inner ≡ opened) × (r.count ≡ 0)) }
+{
+    match about {
+        Ok(about) if about.is_dir() => Err(Reason::Folder),
+        Ok(_) | Err(_) => Ok(Counted::of(opened)),
+    }
+}
+
+// The text of what was opened, from where it is up to its end, or to so many bytes.
+fn text_of<R: In + Drop>(
+    alloc: Global,
+    opened: Result<R, Reason>,
+    most: usize,
+) -> Result<Vec<u8>, Refused<Unread>>
+    requires { IfOk opened (λ r. R.failed r ≡ 0) }
+    ensures text { (s : List ℕ) → IfOk opened (λ r. R.rest r ≡ Some s) → IfOk result (λ v. v.items ≡ take most s) }
+    ensures unopened { IfErr opened (λ why. result ≡ Err (Refused.Fault (Unread.NotOpened why))) }
+{
+    match opened {
+        Ok(reader) => {
+            let mut reader = reader;
+            match read_up_to(alloc, &mut reader, most) {
+                Ok(text) => Ok(text),
+                Err(Refused::Memory) => Err(Refused::Memory),
+                Err(Refused::Fault(_)) => Err(Refused::Fault(Unread::NotRead)),
+            }
+        }
+        Err(reason) => Err(Refused::Fault(Unread::NotOpened(reason))),
     }
 }

@@ -99,8 +99,7 @@ fn open_text<'n, O: Opener>(
     ensures fresh { IfOk result (λ t. option_map_or O.Reader.failed t.reader 0 ≡ 0) }
     ensures named { IfErr result (λ _. named (option_map (λ n. n.now) name.entry) ≢ []) }
     ensures same { O.holds files.new ≡ O.holds files.old }
-    ensures nothing_created { O.created files.new ≡ O.created files.old }
-    ensures nothing_saved { O.saved files.new ≡ O.saved files.old }
+    ensures unsaved { (O.created files.new ≡ O.created files.old) × (O.saved files.new ≡ O.saved files.old) × (O.refusal files.new ≡ O.refusal files.old) }
 {
     match name {
         None => Ok(Text { reader: None }),
@@ -126,8 +125,7 @@ pub(crate) fn open_texts<'n, O: Opener>(
     ensures fresh { IfOk result (AreFresh O.Reader.failed) }
     ensures named { IfErr result (λ _. in_order (names_in names.entry) ≢ []) }
     ensures same { O.holds files.new ≡ O.holds files.old }
-    ensures nothing_created { O.created files.new ≡ O.created files.old }
-    ensures nothing_saved { O.saved files.new ≡ O.saved files.old }
+    ensures unsaved { (O.created files.new ≡ O.created files.old) × (O.saved files.new ≡ O.saved files.old) × (O.refusal files.new ≡ O.refusal files.old) }
 {
     let source = open_text(files, names.source)?;
     let deck = open_text(files, names.deck)?;

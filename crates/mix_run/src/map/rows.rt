@@ -1,6 +1,6 @@
 //! The rows of the map of a run: of each its line, and a box for each stretch of columns in which it is equally dark.
-ghost use Rattle.std.specs.Prelude.{◌≡◌, ◌++◌, ◌^◌, ◌<◌, ◌≤◌, ◌+◌, ◌*◌, IfOk, OnOk, string_bytes};
-ghost use Rattle.mix_run.specs.Map.{box_at, box_if, box_place, box_shade, box_text, boxes_text, edge_of, is_begun, is_labelled, label_if, label_place, label_text, name_text, row_at, row_text, rows_text};
+ghost use Rattle.std.specs.Prelude.{◌≡◌, ◌++◌, ◌^◌, ◌<◌, ◌+◌, ◌*◌, IfOk, OnOk, string_bytes};
+ghost use Rattle.mix_run.specs.Map.{box_at, box_place, box_shade, box_text, boxes_text, edge_of, is_begun, is_labelled, label_if, label_place, label_text, name_text, rows_text};
 
 use crate::map::shade::{end_from, shade_at};
 use crate::map::told::place_in;
@@ -14,7 +14,6 @@ use std::alloc::{AllocError, Global};
 /// Appends all rows.
 #[tactic(auto, unfolding(crate::specs::Map::rows_text))]
 pub(super) fn add_rows(
-    alloc: Global,
     program: &Program,
     sheet: &Sheet,
     counts: &[u64],
@@ -27,35 +26,12 @@ pub(super) fn add_rows(
 {
     let (mut at, rows) = (0, rows_in(sheet));
     while at < rows {
-        add_row(
-            alloc,
-            program,
-            sheet,
-            counts,
-            at,
-            place_in(places, at),
-            text,
-        )?;
+        let place = place_in(places, at);
+        add_label(program, sheet, at, place, text)?;
+        add_boxes(sheet, counts, at, place, text)?;
         at += 1;
     }
     Ok(())
-}
-
-fn add_row(
-    alloc: Global,
-    program: &Program,
-    sheet: &Sheet,
-    counts: &[u64],
-    row: usize,
-    place: u16,
-    text: &mut Vec<u8>,
-) -> Result<(), Memory>
-    requires columns { 0 < sheet.now.columns }
-    requires high { 0 < sheet.now.high }
-    ensures { OnOk result (text.new.items ≡ text.old.items ++ row_at program.now sheet.now counts.now row place) }
-{
-    add_label(alloc, program, sheet, row, place, text)?;
-    add_boxes(alloc, sheet, counts, row, place, text)
 }
 
 // The top of a row.
@@ -84,7 +60,6 @@ fn is_labelled(sheet: &Sheet, row: usize) -> bool
 }
 
 fn add_label(
-    alloc: Global,
     program: &Program,
     sheet: &Sheet,
     row: usize,
@@ -96,21 +71,16 @@ fn add_label(
 {
     if is_labelled(sheet, row) {
         let y = top_of(row, sheet.high) + u128::from(sheet.high.min(10));
-        add_label_of(alloc, line_at(program, place), y, place, text)?;
+        add_label_of(line_at(program, place), y, place, text)?;
     }
     Ok(())
 }
 
 #[tactic(auto, unfolding(crate::specs::Map::label_text))]
-fn add_label_of(
-    alloc: Global,
-    line: Option<u32>,
-    y: u128,
-    place: u16,
-    text: &mut Vec<u8>,
-) -> Result<(), Memory>
+fn add_label_of(line: Option<u32>, y: u128, place: u16, text: &mut Vec<u8>) -> Result<(), Memory>
     ensures { OnOk result (text.new.items ≡ text.old.items ++ label_text line y place) }
 {
+    let alloc = *text.allocator();
     let at = label_place(alloc, y)?;
     text.extend_from_slice(at.as_bytes())?;
     let name = name_text(alloc, line, place)?;
@@ -144,7 +114,6 @@ fn name_text(alloc: Global, line: Option<u32>, place: u16) -> Result<String, All
 // The boxes of a row.
 #[tactic(auto, unfolding(crate::specs::Map::boxes_text))]
 fn add_boxes(
-    alloc: Global,
     sheet: &Sheet,
     counts: &[u64],
     row: usize,
@@ -156,7 +125,7 @@ fn add_boxes(
 {
     let (mut at, columns) = (0, columns_in(sheet));
     while at < columns {
-        add_box(alloc, sheet, counts, row, place, at, text)?;
+        add_box(sheet, counts, row, place, at, text)?;
         at += 1;
     }
     Ok(())
@@ -171,7 +140,6 @@ fn is_begun(sheet: &Sheet, counts: &[u64], place: u16, dark: u64, column: u16) -
 
 // The box that begins at a column, if one does.
 fn add_box(
-    alloc: Global,
     sheet: &Sheet,
     counts: &[u64],
     row: usize,
@@ -187,13 +155,12 @@ fn add_box(
         return Ok(());
     }
     let end = end_from(sheet, counts, place, dark, column);
-    add_stretch(alloc, sheet, row, column, end, dark, text)
+    add_stretch(sheet, row, column, end, dark, text)
 }
 
 // A stretch of columns that are equally dark.
 #[tactic(auto, unfolding(crate::specs::Map::box_text))]
 fn add_stretch(
-    alloc: Global,
     sheet: &Sheet,
     row: usize,
     column: u16,
@@ -206,6 +173,7 @@ fn add_stretch(
 {
     let (left, top) = (edge_of(sheet, column), top_of(row, sheet.high));
     let wide = edge_of(sheet, end).saturating_sub(left);
+    let alloc = *text.allocator();
     let place = box_place(alloc, left, top, wide, sheet.high)?;
     text.extend_from_slice(place.as_bytes())?;
     let shade = box_shade(alloc, dark)?;

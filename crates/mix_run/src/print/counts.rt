@@ -3,7 +3,7 @@ ghost use Rattle.std.specs.Prelude.{◌≡◌, ◌<◌, ◌++◌, ◌-◌, ◌^�
 ghost use Rattle.mix_session.specs.Command.{after};
 ghost use Rattle.mix_session.specs.Session.{opened};
 ghost use Rattle.mix_session.specs.Tally.{tally_in};
-ghost use Rattle.mix_run.specs.Counted.{count_row, count_rows, count_rows_at, counted_run, counted_steps, counts_table, end_of, max_counted, run_end};
+ghost use Rattle.mix_run.specs.Counted.{count_rows, count_rows_at, counted_run, counted_steps, counts_table, end_of, max_counted, run_end};
 ghost use Rattle.mix_run.specs.Drawn.{DrawnIf};
 ghost use Rattle.mix_run.specs.Keep.{kept_if};
 ghost use Rattle.mix_run.specs.PrintOutput.{Leaves, counted_outcome, ran_to};
@@ -41,7 +41,7 @@ pub(super) fn count_loaded<W: Out>(
 ) -> Result<Printed, ToolFault>
     requires { W.failed out.old < 2 ^ 64 - 1 }
     ensures { Leaves (counted_outcome format options program units)
-        (DrawnIf options.map program (after (counted_steps options.steps (opened program units).timeline)) []) result
+        (DrawnIf options.map program (after (counted_steps options.steps (opened program units).timeline))) result
         (W.told out.old) (W.failed out.old) (W.told out.new) (W.failed out.new) }
 {
     let mut session = Session::open(alloc, program, units)?;
@@ -60,7 +60,7 @@ fn counted(
 ) -> Result<(Vec<u8>, Printed), Memory>
     ensures { let run = counted_run format options.steps session.old in let program = session.old.program in
         IfOk result (λ r. (r.0.items ≡ run.bytes) × (r.1.answer ≡ Ran (ran_to program run)) × (r.1.deck.items ≡ kept_if options.keep run.world)
-        × DrawnIf options.map program (after (counted_steps options.steps session.old.timeline)) [] r.1.map.items) }
+        × DrawnIf options.map program (after (counted_steps options.steps session.old.timeline)) r.1.map.items) }
 {
     let end = run_steps(session, options.steps)?;
     let text = counts_table(alloc, session, format)?;

@@ -1,9 +1,10 @@
 //! A run beside a session: its map is drawn of the session's steps, and a part of which a table is to be is named there.
-ghost use Rattle.std.specs.Prelude.{◌≡◌, ◌<◌, ◌++◌, ◌-◌, ◌^◌, [], IfOk, length};
+ghost use Rattle.std.specs.Prelude.{◌≡◌, ◌<◌, ◌-◌, ◌^◌, IfOk};
 ghost use Rattle.mix_session.specs.Command.{after};
 ghost use Rattle.mix_session.specs.Change.{world_at};
 ghost use Rattle.mix_run.specs.Counted.{counted_steps};
-ghost use Rattle.mix_run.specs.Drawn.{Drawn, DrawnIf, DrawnRun};
+ghost use Rattle.mix_run.specs.Drawn.{DrawnIf, DrawnRun};
+ghost use Rattle.mix_run.specs.Map.{IsMap};
 ghost use Rattle.mix_run.specs.PrintOutput.{Leaves, answered, printed_outcome};
 ghost use Rattle.mix_run.specs.StepTable.{run_told};
 
@@ -33,7 +34,7 @@ pub(super) fn tell_loaded<W: Out>(
     out: &mut W,
 ) -> Result<Printed, ToolFault>
     requires { W.failed out.old < 2 ^ 64 - 1 }
-    ensures { Leaves (printed_outcome options part.now program units) (DrawnRun options part.now program units []) result
+    ensures { Leaves (printed_outcome options part.now program units) (DrawnRun options part.now program units) result
         (W.told out.old) (W.failed out.old) (W.told out.new) (W.failed out.new) }
 {
     let mut session = Session::open(alloc, program, units)?;
@@ -59,7 +60,7 @@ fn tell_session<W: Out>(
     requires { W.failed out.old < 2 ^ 64 - 1 }
     ensures { let program = session.old.program in
         Leaves (answered options program (run_told table.now options program (world_at session.old.timeline 0)))
-        (DrawnIf options.map program (after (counted_steps options.steps session.old.timeline)) []) result
+        (DrawnIf options.map program (after (counted_steps options.steps session.old.timeline))) result
         (W.told out.old) (W.failed out.old) (W.told out.new) (W.failed out.new) }
 {
     let mut world = session.world_at(alloc, 0)?;
@@ -76,7 +77,7 @@ fn draw_steps(
     options: PrintOptions,
 ) -> Result<Vec<u8>, Memory>
     ensures program { session.new.program ≡ session.old.program }
-    ensures map { IfOk result (λ map. DrawnIf options.map session.old.program (after (counted_steps options.steps session.old.timeline)) [] map.items) }
+    ensures map { IfOk result (λ map. DrawnIf options.map session.old.program (after (counted_steps options.steps session.old.timeline)) map.items) }
 {
     if options.map {
         run_steps(session, options.steps)?;
@@ -88,7 +89,7 @@ fn draw_steps(
 
 /// The map of the changes of a session, if it is asked for.
 pub(super) fn draw_if(alloc: Global, session: &Session, map: bool) -> Result<Vec<u8>, Memory>
-    ensures { IfOk result (λ text. DrawnIf map session.now.program session.now.timeline [] text.items) }
+    ensures { IfOk result (λ text. DrawnIf map session.now.program session.now.timeline text.items) }
 {
     if map {
         draw(alloc, session)
@@ -98,7 +99,7 @@ pub(super) fn draw_if(alloc: Global, session: &Session, map: bool) -> Result<Vec
 }
 
 fn draw(alloc: Global, session: &Session) -> Result<Vec<u8>, Memory>
-    ensures { IfOk result (λ text. Drawn session.now.program session.now.timeline [] text.items) }
+    ensures { IfOk result (λ text. IsMap session.now.program session.now.timeline text.items) }
 {
     let total = session.changes().len();
     let counts = session.path(alloc, span_of(total))?;

@@ -4,7 +4,7 @@ ghost use Rattle.mix_run.specs.Print.{printed};
 
 use crate::print::options::PrintOptions;
 use crate::print::watch::Watch;
-use mix_machine::{Change, Old, World, change_law, transfer_law};
+use mix_machine::{Change, Many, Old, World, change_law, transfer_law};
 use mix_refused::Memory;
 use mix_word::decode_law;
 use undo_core::{Kept, Refused, Undo};
@@ -41,7 +41,8 @@ pub(super) fn plain_steps(
             return Ok(left);
         }
         kept.clear();
-        let (done, answer) = world.apply_many(&Change::Step, left.min(TOGETHER) as usize, kept);
+        let together = left.min(TOGETHER) as usize;
+        let (done, answer) = world.apply_until(&Change::Step, together, &Many::Freely, kept);
         match answer {
             Err(Refused::Memory) => return Err(Memory),
             _ => left -= done as u64,

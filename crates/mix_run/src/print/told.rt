@@ -1,60 +1,23 @@
 //! The run of a program as it is asked for: beside a session or not, told by what it prints or in a table.
-ghost use Rattle.std.specs.Prelude.{◌≡◌, ◌≢◌, ◌<◌, ◌++◌, ◌-◌, ◌^◌, ◌||◌, [], Ok, Err, IfErr, OnOk, is_some};
-ghost use Rattle.mixal_asm.specs.declared.fault.AsmFault.{AsmFault};
-ghost use Rattle.mix_stream.specs.Stream.{CountsFailure};
+ghost use Rattle.std.specs.Prelude.{◌≡◌, ◌<◌, ◌-◌, ◌^◌, ◌||◌, is_some};
 ghost use Rattle.mix_run.specs.Drawn.{DrawnRun};
-ghost use Rattle.mix_run.specs.Fault.{IsMemoryOrWrite};
-ghost use Rattle.mix_run.specs.PrintOutput.{Leaves, Prints, counts_asked, kept_of, outcome_of_run};
+ghost use Rattle.mix_run.specs.PrintOutput.{Leaves, counts_asked, outcome_of_run};
 
 use crate::fault::ToolFault;
+use crate::print::Printed;
 use crate::print::counts::count_loaded;
 use crate::print::drawn::tell_loaded;
 use crate::print::loaded::print_loaded;
 use crate::print::options::{AskedTable, PrintOptions, TableOf};
-use crate::print::{PrintAnswer, Printed};
 use crate::table::TableFormat;
 use mix_machine::Units;
-use mix_refused::Memory;
 use mix_stream::Out;
 use mixal_asm::Program;
 use std::alloc::Global;
 
-/// The run of a program with its units; what is to be kept and drawn is appended.
-pub(super) fn run_loaded<W: Out>(
-    alloc: Global,
-    program: Program,
-    units: Units,
-    options: PrintOptions,
-    part: &[u8],
-    kept: &mut Vec<u8>,
-    map: &mut Vec<u8>,
-    out: &mut W,
-) -> Result<PrintAnswer, ToolFault>
-    requires { W.failed out.old < 2 ^ 64 - 1 }
-    ensures output { Prints (outcome_of_run options part.now program units) result (W.told out.old) (W.told out.new) }
-    ensures kept { OnOk result (kept.new.items ≡ kept.old.items ++ kept_of (outcome_of_run options part.now program units)) }
-    ensures map { OnOk result (DrawnRun options part.now program units map.old.items map.new.items) }
-    ensures write { CountsFailure (result ≡ Err ToolFault.Write) (W.failed out.old) (W.failed out.new) }
-    ensures only { IfErr result IsMemoryOrWrite }
-    ensures ran { (f : AsmFault) → result ≢ Ok (PrintAnswer.Refused f) }
-{
-    let left = run_program(alloc, program, units, options, part, out)?;
-    append(kept, &left.deck)?;
-    append(map, &left.map)?;
-    Ok(left.answer)
-}
-
-// Appends one text to another.
-fn append(text: &mut Vec<u8>, more: &[u8]) -> Result<(), Memory>
-    ensures { OnOk result (text.new.items ≡ text.old.items ++ more.now) }
-{
-    text.extend_from_slice(more)?;
-    Ok(())
-}
-
-// What a run of a program leaves.
+/// What a run of a program with its units leaves.
 #[tactic(auto, unfolding(crate::specs::PrintOutput::outcome_of_run))]
-fn run_program<W: Out>(
+pub(super) fn run_loaded<W: Out>(
     alloc: Global,
     program: Program,
     units: Units,
@@ -63,7 +26,7 @@ fn run_program<W: Out>(
     out: &mut W,
 ) -> Result<Printed, ToolFault>
     requires { W.failed out.old < 2 ^ 64 - 1 }
-    ensures { Leaves (outcome_of_run options part.now program units) (DrawnRun options part.now program units []) result
+    ensures { Leaves (outcome_of_run options part.now program units) (DrawnRun options part.now program units) result
         (W.told out.old) (W.failed out.old) (W.told out.new) (W.failed out.new) }
 {
     match counts_asked(options.table) {

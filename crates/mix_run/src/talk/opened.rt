@@ -23,10 +23,11 @@ ghost use Rattle.mixal_asm.specs.Program.{ProgramValue};
 ghost use Rattle.std.specs.List.{list_any};
 ghost use Rattle.mix_stream.specs.Stream.{ConsumesAtMost, CountsFailure};
 
+use crate::beside::tell_report;
 use crate::bundle::{MAX_BUNDLE_BYTES, Origin, copy_of, parts_of};
 use crate::fault::ToolFault;
 use crate::opener::Opener;
-use crate::statuses::{refuse_source, status, tell_refusal};
+use crate::statuses::{refuse_source, status};
 use crate::talk::Streams;
 use crate::talk::aside::greet;
 use crate::talk::input::talk;
@@ -116,7 +117,7 @@ fn refuse_and_tell<R, W: Out, E: Out>(
     ensures input { streams.new.input ≡ streams.old.input }
     ensures ends { IfOk result IsStatus }
 {
-    tell_refusal(alloc, name, source, &mut streams.errors);
+    tell_report(alloc, name, source, &mut streams.errors);
     refuse_source(alloc, fault, &mut streams.out)
 }
 

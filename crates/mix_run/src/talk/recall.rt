@@ -1,55 +1,53 @@
 //! What a talk recalls of a person's lines, and what it reads them with.
 
-ghost use Rattle.std.specs.Prelude.{◌≡◌, ◌≤◌, [], IfOk, OnOk};
-ghost use Rattle.mix_session.specs.Conditions.{most_conditions};
-ghost use Rattle.mix_run.specs.Recall.{nothing, recalled_after, recalled_display, recalled_watch, watched_by, watched_more, with_done};
-ghost use Rattle.mix_session.specs.Names.{names_of};
+ghost use Rattle.std.specs.Prelude.{◌≡◌, [], IfOk, OnOk};
+ghost use Rattle.mix_run.specs.Recall.{nothing, read_as, recalled_after, recalled_display, recalled_watch, watched_by, watched_more, with_done};
 ghost use Rattle.mix_session.specs.Session.{request_in};
 ghost use Rattle.mix_lines.specs.Lines.{words};
 ghost use Rattle.mix_run.specs.Bundle.{bundle_of};
 ghost use Rattle.mix_run.specs.Opening.{noted};
-ghost use Rattle.mix_person.specs.Person.{name_in, person_line};
+ghost use Rattle.mix_person.specs.Person.{name_in};
 ghost use Rattle.mix_run.specs.Saves.{saves_under};
 
-use crate::bundle::Origin;
+mod points;
+
+use crate::bundle::{Origin, copy_of};
 use crate::opener::Opener;
 use crate::talk::aside::{After, say, say_bytes, tell_shown};
+use crate::talk::finish::finished;
 use crate::talk::listing::Listed;
+use crate::talk::points::can_wait;
 use crate::talk::save::save;
 use crate::talk::watched::{condition_watched, put_watched};
 use mix_person::{form_of, person_line, shows_part};
 use mix_refused::Memory;
-use mix_session::{Conditions, Request, Session};
+use mix_session::{Request, Session};
 use mix_stream::Out;
 use std::alloc::Global;
 use std::marker::Model;
 
 /// The line of a script that a blank line stands for: that of the line before it, or an empty one, where that was no command. With it what is
-/// watched, the lines that show what is displayed, the script of what was done, and where the last `list` has ended.
+/// watched, the points, the lines that show what is displayed, the script of what was done, and where the last `list` has ended.
 #[derive(Drop)]
 pub(crate) struct Recall {
     alloc: Global,
     again: Vec<u8>,
     watch: Vec<u8>,
-    watched: usize,
+    points: Vec<u8>,
     displays: Vec<u8>,
     done: Vec<u8>,
     listed: Option<Listed>,
 }
 
-const WATCHED: &str = "watch takes no more than eight conditions; delete forgets them\n";
+pub(crate) const MOST: &str =
+    "no more than eight are watched or are breakpoints; delete forgets those, clear all these\n";
 
 impl Model for Recall {
     ghost use Rattle.mix_run.specs.Recall.{RecallState};
 
     ghost Value = { RecallState };
 
-    ghost view = { λ r. record { again = r.again.items; watch = r.watch.items; watched = r.watched; displays = r.displays.items; done = r.done.items } };
-
-    ghost use Rattle.std.specs.Prelude.{◌≤◌};
-    ghost use Rattle.mix_session.specs.Conditions.{most_conditions};
-
-    ghost invariant = { λ r. r.watched ≤ most_conditions };
+    ghost view = { λ r. record { again = r.again.items; watch = r.watch.items; points = r.points.items; displays = r.displays.items; done = r.done.items } };
 }
 
 impl Recall {
@@ -60,7 +58,7 @@ impl Recall {
             alloc,
             again: Vec::new(alloc),
             watch: Vec::new(alloc),
-            watched: 0,
+            points: Vec::new(alloc),
             displays: Vec::new(alloc),
             done: Vec::new(alloc),
             listed: None,
@@ -71,17 +69,18 @@ impl Recall {
         self.alloc
     }
 
-    /// The line of a script that a person's line stands for.
+    /// The line of a script that a person's line is read as.
     pub(crate) fn line(&self, session: &Session, line: &[u8]) -> Result<Vec<u8>, Memory>
-        ensures { IfOk result (λ text. text.items ≡ person_line (names_of session.now.program) self.now.again self.now.watch line.now) }
+        ensures { IfOk result (λ text. text.items ≡ read_as session.now self.now line.now) }
     {
-        person_line(
+        let typed = person_line(
             self.alloc,
             session.program(),
             &self.again,
             &self.watch,
             line,
-        )
+        )?;
+        finished(self.alloc, session, typed)
     }
 
     /// Where the last `list` has ended.
@@ -119,10 +118,10 @@ impl Recall {
         line: &[u8],
         errors: &mut E,
     ) -> Result<(), Memory>
-        ensures { OnOk result (self.new ≡ recalled_watch (request_in session.now line.now) line.now self.old) }
+        ensures { OnOk result (self.new ≡ recalled_watch session.now (request_in session.now line.now) line.now self.old) }
     {
         match session.read(line) {
-            Ok(request) => self.watch_request(request, line, errors)?,
+            Ok(request) => self.watch_request(session, request, line, errors)?,
             Err(_) => say(form_of(Some(b"watch")), errors),
         }
         Ok(())
@@ -130,31 +129,35 @@ impl Recall {
 
     fn watch_request<E: Out>(
         &mut self,
+        session: &Session,
         request: Request,
         line: &[u8],
         errors: &mut E,
     ) -> Result<(), Memory>
-        ensures { OnOk result (self.new ≡ watched_by request line.now self.old) }
+        ensures { OnOk result (self.new ≡ watched_by session.now request line.now self.old) }
     {
-        match request {
-            Request::RunUntil(_, conditions) => self.watch_more(conditions.len(), line, errors)?,
-            _ => {}
+        if let Request::RunUntil(..) = request {
+            let mut watch = copy_of(self.alloc, &self.watch)?;
+            put_watched(&mut watch, line)?;
+            self.watch_more(session, watch, errors)?;
         }
         Ok(())
     }
 
-    // So many conditions more are watched, if there are then no more than eight.
-    fn watch_more<E: Out>(&mut self, more: usize, line: &[u8], errors: &mut E) -> Result<(), Memory>
-        requires { more ≤ most_conditions }
-        ensures { OnOk result (self.new ≡ watched_more more line.now self.old) }
+    // This is watched, if there are then no more than eight conditions.
+    fn watch_more<E: Out>(
+        &mut self,
+        session: &Session,
+        watch: Vec<u8>,
+        errors: &mut E,
+    ) -> Result<(), Memory>
+        ensures { OnOk result (self.new ≡ watched_more session.now watch.items self.old) }
     {
-        let watched = self.watched + more;
-        if watched > Conditions::MOST {
-            say(WATCHED, errors);
+        if !can_wait(self.alloc, session, &watch, &self.points)? {
+            say(MOST, errors);
             return Ok(());
         }
-        put_watched(&mut self.watch, line)?;
-        self.watched = watched;
+        self.watch = watch;
         say("watching", errors);
         say_bytes(condition_watched(&self.watch), errors);
         say("\n", errors);
@@ -163,10 +166,9 @@ impl Recall {
 
     /// Nothing is watched any more.
     pub(crate) fn delete(&mut self)
-        ensures { self.new ≡ record self.old { watch = []; watched = 0 } }
+        ensures { self.new ≡ record self.old { watch = [] } }
     {
         self.watch.clear();
-        self.watched = 0;
     }
 
     /// What a line asks for is shown, now and after each stop, if it is there to be shown.

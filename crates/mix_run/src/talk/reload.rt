@@ -13,7 +13,6 @@ ghost use Rattle.mix_run.specs.Sources.{is_reload};
 use crate::beside::tell_report;
 use crate::bundle::{MAX_BUNDLE_BYTES, Origin, copy_of, parts_of};
 use crate::opener::Opener;
-use crate::statuses::tell_refusal;
 use crate::talk::aside::{After, Talker, say, say_bytes, tell};
 use crate::talk::done::answer_to;
 use crate::talk::file::tell_file;
@@ -127,7 +126,7 @@ fn reload_source<E: Out>(
         Ok(program) => reload_program(session, recall, origin, program, source, errors),
         Err(Refused::Memory) => Err(Memory),
         Err(Refused::Fault(_)) => {
-            tell_refusal(alloc, origin.name(), source, errors);
+            tell_report(alloc, origin.name(), source, errors);
             Ok(())
         }
     }

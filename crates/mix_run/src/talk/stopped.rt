@@ -1,13 +1,15 @@
 //! What a person is told beside the replies: what has stopped a run and how much time it took,
 //! where breakpoints are, and the numbers of symbols.
 
-use crate::talk::aside::{say, say_bytes};
-use mix_lines::Words;
+use crate::talk::aside::{After, say, say_bytes};
+use crate::talk::points::cell_named;
+use crate::talk::recall::{MOST, Recall};
+use mix_lines::{Words, split_line};
 use mix_machine::Place;
 use mix_refused::Memory;
 use mix_session::{Answer, End, Session, Topic};
 use mix_stream::Out;
-use mix_word::{CELLS, Location};
+use mix_word::Location;
 use mixal_asm::Source;
 use std::alloc::Global;
 
@@ -66,7 +68,8 @@ pub(crate) fn tell_run<E: Out>(
     match end {
         End::Break => say(" a breakpoint", errors),
         End::Until(number) => {
-            // the condition comes after so many of the words `until` and `or`
+            // the condition comes after so many of the words `until` and `or`; behind those that were
+            // typed are the points
             let wanted = number.saturating_add(1);
             let mut seen = 0usize;
             while let Some(word) = words.next() {
@@ -76,6 +79,9 @@ pub(crate) fn tell_run<E: Out>(
                     say(" ", errors);
                     say_bytes(word, errors);
                 }
+            }
+            if seen < wanted {
+                say(" a breakpoint", errors);
             }
         }
         End::Halt | End::Fault(_) | End::Arrived | End::Limit | End::Start => {}
@@ -95,32 +101,51 @@ pub(crate) fn tell_run<E: Out>(
     Ok(())
 }
 
-/// After `show breaks` a person is told the line of each breakpoint, and after `show symbols` each
-/// symbol with its number in decimal.
-pub(crate) fn tell_more<E: Out>(
+// A point, with the text of its line of the source; or what was said, if the program has no such
+// location.
+fn tell_point<E: Out>(
     alloc: Global,
+    session: &Session,
+    point: &[u8],
+    errors: &mut E,
+) -> Result<(), Memory> {
+    match cell_named(session, point) {
+        Some(place) => {
+            say_location(alloc, session, place.number(), errors)?;
+            match session.program().source_at(place) {
+                Some(Source::Line(_, text)) => {
+                    say(": ", errors);
+                    say_bytes(text, errors);
+                }
+                Some(Source::Literal(_) | Source::Name(_)) | None => {}
+            }
+        }
+        None => {
+            say_bytes(point, errors);
+            say(" is not there", errors);
+        }
+    }
+    say("\n", errors);
+    Ok(())
+}
+
+/// After `show breaks` a person is told each point with its line of the source, and after
+/// `show symbols` each symbol with its number in decimal.
+pub(crate) fn tell_more<E: Out>(
+    recall: &Recall,
     session: &Session,
     answer: &Answer,
     errors: &mut E,
 ) -> Result<(), Memory> {
+    let alloc = recall.allocator();
     let program = session.program();
     match answer {
         Answer::Shows(Topic::Breaks) => {
-            for number in 0..CELLS {
-                match Place::of(number) {
-                    Some(place) if session.world().is_break(place) => {
-                        say_location(alloc, session, number, errors)?;
-                        match program.source_at(place) {
-                            Some(Source::Line(_, text)) => {
-                                say(": ", errors);
-                                say_bytes(text, errors);
-                            }
-                            Some(Source::Literal(_) | Source::Name(_)) | None => {}
-                        }
-                        say("\n", errors);
-                    }
-                    Some(_) | None => {}
-                }
+            let mut rest = recall.points();
+            while !rest.is_empty() {
+                let (line, after) = split_line(rest);
+                tell_point(alloc, session, line, errors)?;
+                rest = after;
             }
         }
         Answer::Shows(Topic::Symbols) => {
@@ -135,4 +160,12 @@ pub(crate) fn tell_more<E: Out>(
         _ => {}
     }
     Ok(())
+}
+
+/// A person is told why a run is refused whose own words are not: with the points it has more than
+/// eight conditions.
+pub(crate) fn tell_too_many<E: Out>(after: After, session: &Session, typed: &[u8], errors: &mut E) {
+    if matches!(after, After::Refused) && session.read(typed).is_ok() {
+        say(MOST, errors);
+    }
 }

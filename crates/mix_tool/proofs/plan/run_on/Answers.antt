@@ -29,7 +29,7 @@ pub returns-in-Debug-clause-done : goal.returns-in-Debug-clause-done
 returns-in-Debug-clause-done g c all given e holds = rw c.in-Debug.is (c.debug_on.ensures.runs all given e holds)
 
 pub returns-in-Run-clause-opened : goal.returns-in-Run-clause-opened
-returns-in-Run-clause-opened g c all e = rw (c.in-Run.is, c.run_texts.ensures.asked) (asks-nothing _)
+returns-in-Run-clause-opened g c all e = rw (c.in-Run.is, c.run_texts.ensures.unread.0) (asks-nothing _)
 
 pub returns-in-Run-clause-done : goal.returns-in-Run-clause-done
 returns-in-Run-clause-done g c all given e holds = rw c.in-Run.is (c.run_texts.ensures.done given holds)

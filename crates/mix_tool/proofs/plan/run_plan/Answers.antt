@@ -14,21 +14,21 @@ returns-in-Ok-clause-opened g c all e =
 pub returns-in-Ok-clause-done : goal.returns-in-Ok-clause-done
 returns-in-Ok-clause-done g c all e =
     let plan = c.args.plan.now in
-    let before = seen g.R.In.rest g.W.Out.told g.E.Out.told g.E.Out.failed c.args.streams.now in
-    let after = seen g.R.In.rest g.W.Out.told g.E.Out.told g.E.Out.failed c.run_on.new.streams in
+    let before = seen g.R.In.rest g.W.Out.told g.E.Out.told g.E.Out.failed (g.O.Opener.refusal c.args.files.now) c.args.streams.now in
+    let after = seen g.R.In.rest g.W.Out.told g.E.Out.told g.E.Out.failed (g.O.Opener.refusal c.run_on.new.files) c.run_on.new.streams in
     let here = c.open_texts.ensures.same ∙ e in
     let both = plan-opened all (in_order (names_in c.names_in.result)) (in_order (names_of plan)) (sources_of plan) _ _ _
     (ap in_order c.names_in.ensures) (c.in-Ok.ensures.opened all e) (c.run_on.ensures.opened all here) in
     let holds = subst (λ (n : FileNames). HoldTexts g.O.Reader.In.rest c.in-Ok.texts (given_of all n)) c.names_in.ensures (c.in-Ok.ensures.texts all e) in
     done-as (missing_of all (files_of plan)) (missing_of all (sources_of plan))
     (RunsOn all plan (given_of all (names_of plan)) c.args.streams.now.talker c.run_on.result before after) c.run_on.result before after both.1
-    (c.run_on.ensures.done all (given_of all (names_of plan)) here holds)
+    (rw c.open_texts.ensures.unsaved.2 at (c.run_on.ensures.done all (given_of all (names_of plan)) here holds))
 
 pub returns-in-Err-clause-done : goal.returns-in-Err-clause-done
 returns-in-Err-clause-done g c all e =
     let plan = c.args.plan.now in
-    let before = seen g.R.In.rest g.W.Out.told g.E.Out.told g.E.Out.failed c.args.streams.now in
-    let after = seen g.R.In.rest g.W.Out.told g.E.Out.told g.E.Out.failed (record {
+    let before = seen g.R.In.rest g.W.Out.told g.E.Out.told g.E.Out.failed (g.O.Opener.refusal c.args.files.now) c.args.streams.now in
+    let after = seen g.R.In.rest g.W.Out.told g.E.Out.told g.E.Out.failed (g.O.Opener.refusal c.open_texts.new.files) (record {
       talker = c.args.streams.now.talker;
       input = c.args.streams.now.input;
       out = c.args.streams.now.out;
@@ -54,18 +54,18 @@ pub returns-in-Err-clause-broken : goal.returns-in-Err-clause-broken
 returns-in-Err-clause-broken g c is = absurd (c.in-Err.ensures.named (ap in_order c.names_in.ensures ∙ client-unnamed c.args.plan.now (adapter-hears c.args.plan.now is)))
 
 pub returns-in-Ok-clause-created : goal.returns-in-Ok-clause-created
-returns-in-Ok-clause-created g c names e = rw c.open_texts.ensures.nothing_created at (c.run_on.ensures.created names e)
+returns-in-Ok-clause-created g c names e = rw c.open_texts.ensures.unsaved.0 at (c.run_on.ensures.created names e)
 
 pub returns-in-Err-clause-created : goal.returns-in-Err-clause-created
-returns-in-Err-clause-created g c names e = creates-none names _ _ _ c.tell_not_opened.ensures.status c.open_texts.ensures.nothing_created
+returns-in-Err-clause-created g c names e = creates-none names _ _ _ c.tell_not_opened.ensures.status c.open_texts.ensures.unsaved.0
 
 pub returns-in-Ok-clause-saved : goal.returns-in-Ok-clause-saved
 returns-in-Ok-clause-saved g c all e =
     let holds = subst (λ (n : FileNames). HoldTexts g.O.Reader.In.rest c.in-Ok.texts (given_of all n)) c.names_in.ensures (c.in-Ok.ensures.texts all e) in
-    rw c.open_texts.ensures.nothing_saved at (c.run_on.ensures.saved (given_of all (names_of c.args.plan.now)) holds)
+    rw c.open_texts.ensures.unsaved.1 at (c.run_on.ensures.saved (given_of all (names_of c.args.plan.now)) holds)
 
 pub returns-in-Err-clause-saved : goal.returns-in-Err-clause-saved
-returns-in-Err-clause-saved g c all e = saves-none c.args.plan.now _ _ _ _ c.tell_not_opened.ensures.status c.open_texts.ensures.nothing_saved
+returns-in-Err-clause-saved g c all e = saves-none c.args.plan.now _ _ _ _ c.tell_not_opened.ensures.status c.open_texts.ensures.unsaved.1
 
 pub returns-in-Err-clause-spoken : goal.returns-in-Err-clause-spoken
 returns-in-Err-clause-spoken g c is = absurd (c.in-Err.ensures.named (ap in_order c.names_in.ensures ∙ client-unnamed c.args.plan.now (server-hears c.args.plan.now is)))
@@ -78,3 +78,6 @@ returns-in-Ok-clause-spoken g c = c.run_on.ensures.spoken
 
 pub returns-in-Ok-clause-speechless : goal.returns-in-Ok-clause-speechless
 returns-in-Ok-clause-speechless g c = c.run_on.ensures.speechless
+
+pub returns-in-Ok-clause-all_saved : goal.returns-in-Ok-clause-all_saved
+returns-in-Ok-clause-all_saved g c names e well = c.run_on.ensures.all_saved names e well ∙ c.open_texts.ensures.unsaved.2

@@ -1,6 +1,6 @@
 -- One row more.
-use Rattle.std.proofs.Common.{◌≡◌, ◌<◌, ◌-◌, arith, refl}
-use Rattle.mix_run.specs.Map.{row_text, rows_text}
+use Rattle.std.proofs.Common.{◌≡◌, ◌<◌, ◌∙◌, ◌-◌, ◌++◌, ap, append_assoc, arith, refl}
+use Rattle.mix_run.specs.Map.{boxes_text, label_if, row_text, rows_text}
 use Rattle.mix_run.proofs.KeepLemmas.{added-all, added-more, numbers-next, numbers-none}
 use Rattle.mix_run.proofs.map.rows.add_rows.Goals as goal
 
@@ -11,8 +11,12 @@ pub loop-at-preserved : goal.loop-at-preserved
 loop-at-preserved c =
     let row = row_text c.args.program.now c.args.sheet.now c.args.counts.now c.args.places.now in
     let there : c.loop-at.at < c.args.sheet.now.rows = omega (arith, c.loop-at-test.true, c.rows_in-rows.ensures) in
-    added-more _ _ (row c.loop-at.at) _ _ _ c.loop-at.invariant (numbers-next row c.loop-at.at c.args.sheet.now.rows there)
-    (rw c.place_in.ensures at c.in_ok-add_row.ensures)
+    let place = c.place_in-place.result in
+    let label = label_if c.args.program.now c.args.sheet.now c.loop-at.at place in
+    let boxes = boxes_text c.args.sheet.now c.args.counts.now c.loop-at.at place in
+    let added : c.add_boxes.new.text.items ≡ c.loop-at.text.items ++ (label ++ boxes) =
+    c.in_ok-add_boxes.ensures ∙ ap (λ l. l ++ boxes) c.in_ok-add_label.ensures ∙ append_assoc c.loop-at.text.items label boxes in
+    added-more _ _ (row c.loop-at.at) _ _ _ c.loop-at.invariant (numbers-next row c.loop-at.at c.args.sheet.now.rows there) (rw c.place_in-place.ensures at added)
 
 pub returns : goal.returns
 unfolding rows_text
