@@ -24,7 +24,8 @@ CALL = re.compile(r"((?:[A-Z]\w*::)?)([a-z_]\w*\()")
 # What a block of a source declares: an item by its name, or what a type does.
 DECLARED = re.compile(r"(?:pub(?:\([a-z ]+\))? )?(?:(?:struct|enum|const|static|type|trait) (\w+)|(?:unsafe )?impl.*?(\w+)\s*(?:where.*)?{)")
 
-# A piece of a crate that has a meaning of its own: its sum, and the pieces that it may name, each as the crate, the file of definitions or '', and the name.
+# A piece of a crate that has a meaning of its own: its sum, and the pieces that it may name, each
+# as the crate, the file of definitions or '', and the name.
 Piece = collections.namedtuple("Piece", "sum names")
 
 

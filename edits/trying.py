@@ -12,19 +12,23 @@ from mistakes import Unfit, put_in
 ABOUT = re.compile(r"fn (\S+): (.*)")
 AT = re.compile(r"(?:note: )?(?:\./)?((?:src|specs|proofs)/\S+?):(\d+):\d+: (.*)")
 SEVERAL = re.compile(r"several functions are named `(.*?)`: help: write one of (.*)")
+# How a reason ends that is another function's, or a block's that this one passes on.
+OF_ANOTHER = re.compile(r", which (?:is|are) not proved$")
 # What the prover says where a proof names what an edit took away: nothing of the contract.
 NAMES = re.compile(r"has no field|is not in scope|has no `|was not admitted")
-REFUSED = "refused"
+REFUSED, NOT_TRIED = "refused", "not tried"
+# So many stand in one copy, at most: what a try that is cut off has not found is then not much.
+MOST = 24
 
 
 def own_reasons(output):
-    """The functions that are not proved for a reason of their own, and not only because they call another one; of each, whether it is a goal."""
+    """The functions that are not proved for a reason of their own, and not only for one of what they use; of each, whether it is a goal."""
     lines, reasons, goal = output.split("\n"), {}, False
     told = [(at[1], at[3]) for at in map(AT.match, lines) if at and "error" in at[3]]
     for line in lines:
         about, at = ABOUT.match(line), AT.match(line)
         if about:
-            parts = [it for it in about[2].removeprefix("no proof: ").split("; ") if not it.startswith("it calls ")]
+            parts = [it for it in about[2].removeprefix("no proof: ").split("; ") if not OF_ANOTHER.search(it)]
             if parts and not parts[0].startswith("proved"):
                 folder = "proofs/" + "/".join(about[1].split("::")[1:]) + "/"
                 own = [said for file, said in told if file.startswith(folder)]
@@ -130,13 +134,13 @@ class Trying:
         if status:
             print(f"{self.crate} is not proved as it is:", *output.split("\n")[-8:], sep="\n")
             return None
-        pending, self.most = list(mistakes), len(mistakes)
+        pending, self.most = list(mistakes), MOST
         try:
             while pending:
                 pending = self.round(pending)
         except KeyboardInterrupt:
             self.is_cut = True
-            self.found.update({one.name: "not tried" for one in pending})
+            self.found.update({one.name: NOT_TRIED for one in pending})
         return self.found
 
     def round(self, pending):
