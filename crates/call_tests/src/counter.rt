@@ -24,6 +24,8 @@ impl Undo for Counter {
 
     type Fault = CounterFault;
 
+    type Stop = ();
+
     ghost is_real = { λ _ _. Unit {0} };
 
     ghost gives = { λ s c. if nat_le (s.number + c) 9 then Ok (record { number = s.number + c }) else Err PastNine };
@@ -33,6 +35,8 @@ impl Undo for Counter {
     ghost put = { λ _ o. Some (record { number = o }) };
 
     ghost ends = { λ _. true };
+
+    ghost stops = { λ _ _. false };
 
     ghost goes = { λ _ _. false };
 
@@ -58,8 +62,17 @@ impl Undo for Counter {
         Ok(())
     }
 
-    fn goes(&self, _change: &u8) -> bool {
-        false
+    fn apply_until(
+        &mut self,
+        change: &u8,
+        _most: usize,
+        _stop: &(),
+        kept: &mut Kept<u32>,
+    ) -> (usize, Result<(), Refused<CounterFault>>) {
+        match self.apply(change, kept) {
+            Ok(()) => (1, Ok(())),
+            Err(refused) => (0, Err(refused)),
+        }
     }
 
     fn restore(&mut self, old: u32) {
