@@ -56,6 +56,7 @@ what both say with docs/FORMATS.md.
         --steps <N>          The most steps that are done, 1000000000 if left out
         --unit <N>           Only the rows of this unit, 17 to 20; may be repeated
         --trace              Writes each step too, before what it prints
+        --registers          Writes the registers and the clock at the end too
         --strict             Ends before a step that conflicts with a transfer
         --keep <FILE>        Writes what the units hold at the end, as a deck
         --svg <FILE>         Writes a picture of which lines were executed when
@@ -75,9 +76,10 @@ what both say with docs/FORMATS.md.
   store into a line that is still printed. The first of them is printed there, and
   how many there are; with --strict the run ends before it.
   With --trace the line of each step, with what it altered, comes before what it
-  prints. With --keep the tapes and disks are there for the next program: it reads
-  that file with --devices. With --svg the picture has the lines of the source
-  against the steps of the run: darker where a line was executed more often.
+  prints. With --registers the lines of `show regs` are written at the end. With
+  --keep the tapes and disks are there for the next program: it reads that file
+  with --devices. With --svg the picture has the lines of the source against the
+  steps of the run: darker where a line was executed more often.
   With --counts a table has a row for each instruction that was executed: the line
   of the source, the location, how often, and the time in u. With --writes it has
   a row for each change of a part, with its values before and after. With --trace

@@ -28,6 +28,7 @@ pub record Asked : Type 0 where
   pub steps : ℕ
   pub units : UnitSet
   pub trace : Bool
+  pub registers : Bool
   pub strict : Bool
   pub keep : Option Text
   pub svg : Option Text
@@ -59,6 +60,7 @@ planned_of (plan.Run run) = runs (record {
   steps = run.steps;
   units = run.units;
   trace = run.trace;
+  registers = run.registers;
   strict = run.strict;
   keep = option_map string_bytes run.keep;
   svg = option_map string_bytes run.svg;
@@ -144,6 +146,7 @@ asked_by source rows = record {
   steps = steps_of rows;
   units = units_of rows;
   trace = is_set (codes "trace") rows;
+  registers = is_set (codes "registers") rows;
   strict = is_set (codes "strict") rows;
   keep = first_of (codes "keep") rows;
   svg = first_of (codes "svg") rows;

@@ -34,7 +34,7 @@ abbrev pub commands : List (Text × List (Text × Kind))
 commands = (
   codes "run",
   (codes "SOURCE", Needed) ∷ (codes "cards", File) ∷ (codes "typewriter", File) ∷ (codes "devices", File) ∷ (codes "steps", Number 1 max_steps)
-      ∷ (codes "unit", Numbers 17 20) ∷ (codes "trace", Flag) ∷ (codes "strict", Flag) ∷ (codes "keep", File) ∷ (codes "svg", File)
+      ∷ (codes "unit", Numbers 17 20) ∷ (codes "trace", Flag) ∷ (codes "registers", Flag) ∷ (codes "strict", Flag) ∷ (codes "keep", File) ∷ (codes "svg", File)
       ∷ (codes "counts", Flag) ∷ (codes "writes", Part) ∷ (codes "csv", Flag) ∷ (codes "json", Flag) ∷ (codes "latex", Flag) ∷ [],
 )
     ∷ (codes "debug", (codes "SOURCE", Needed) ∷ (codes "SCRIPT", Free) ∷ (codes "devices", File) ∷ (codes "echo", Flag) ∷ [])

@@ -4,7 +4,7 @@ use Rattle.std.specs.Option.{is_some, option_map_or}
 use Rattle.std.specs.Str.{bytes_eq}
 use Rattle.clap.specs.Words.{Row, Text, first_of}
 use Rattle.mix_cli.specs.declared.vain.Choice.{Choice}
-use Rattle.mix_cli.specs.declared.vain.Choice.TheVariants.{Counts, Csv, Json, Latex, Strict, Trace, Unit, Writes}
+use Rattle.mix_cli.specs.declared.vain.Choice.TheVariants.{Counts, Csv, Json, Latex, Registers, Strict, Trace, Unit, Writes}
 use Rattle.mix_cli.specs.declared.vain.Vain.{Vain}
 use Rattle.mix_cli.specs.declared.vain.Vain.TheVariants.{Alone, Together}
 
@@ -17,17 +17,19 @@ abbrev pub is_chosen : List Row → Choice → Bool
 is_chosen rows Counts = is_set (codes "counts") rows
 is_chosen rows Writes = is_some (first_of (codes "writes") rows)
 is_chosen rows Trace = is_set (codes "trace") rows
+is_chosen rows Registers = is_set (codes "registers") rows
 is_chosen rows Strict = is_set (codes "strict") rows
 is_chosen rows Unit = is_some (first_of (codes "unit") rows)
 is_chosen rows Csv = is_set (codes "csv") rows
 is_chosen rows Json = is_set (codes "json") rows
 is_chosen rows Latex = is_set (codes "latex") rows
 
--- a run writes one table, in one form; beside a table it prints no rows and looks for no conflict
+-- a run writes one table, in one form; beside a table it prints no rows and no registers, and looks for no conflict
 unfoldable pub pairs : List (Choice × Choice)
 pairs =
     (Counts, Writes) ∷ (Counts, Trace) ∷ (Writes, Trace) ∷ (Csv, Json) ∷ (Csv, Latex) ∷ (Json, Latex)
     ∷ (Strict, Counts) ∷ (Strict, Writes) ∷ (Strict, Csv) ∷ (Strict, Json) ∷ (Strict, Latex)
+    ∷ (Registers, Counts) ∷ (Registers, Writes) ∷ (Registers, Csv) ∷ (Registers, Json) ∷ (Registers, Latex)
     ∷ (Unit, Counts) ∷ (Unit, Writes) ∷ (Unit, Csv) ∷ (Unit, Json) ∷ (Unit, Latex) ∷ []
 
 -- the first of some pairs of which both are chosen

@@ -17,9 +17,10 @@ A step that uses cells of a transfer that is not over is a mistake, such as a
 store into a line that is still printed. The first of them is printed there, and
 how many there are; with --strict the run ends before it.
 With --trace the line of each step, with what it altered, comes before what it
-prints. With --keep the tapes and disks are there for the next program: it reads
-that file with --devices. With --svg the picture has the lines of the source
-against the steps of the run: darker where a line was executed more often.
+prints. With --registers the lines of `show regs` are written at the end. With
+--keep the tapes and disks are there for the next program: it reads that file
+with --devices. With --svg the picture has the lines of the source against the
+steps of the run: darker where a line was executed more often.
 With --counts a table has a row for each instruction that was executed: the line
 of the source, the location, how often, and the time in u. With --writes it has
 a row for each change of a part, with its values before and after. With --trace
@@ -116,7 +117,7 @@ const DEVICES: Argument<'static> = Argument {
     help: "The deck: what tapes, disks and cards hold at first",
 };
 
-const RUN_ARGUMENTS: [Argument<'static>; 15] = [
+const RUN_ARGUMENTS: [Argument<'static>; 16] = [
     SOURCE,
     Argument {
         name: "cards",
@@ -143,6 +144,11 @@ const RUN_ARGUMENTS: [Argument<'static>; 15] = [
         name: "trace",
         kind: Kind::Flag,
         help: "Writes each step too, before what it prints",
+    },
+    Argument {
+        name: "registers",
+        kind: Kind::Flag,
+        help: "Writes the registers and the clock at the end too",
     },
     Argument {
         name: "strict",

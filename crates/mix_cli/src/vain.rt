@@ -14,6 +14,7 @@ pub enum Choice {
     Counts,
     Writes,
     Trace,
+    Registers,
     Strict,
     Unit,
     Csv,
@@ -27,6 +28,7 @@ impl Choice {
             Choice::Counts => "--counts",
             Choice::Writes => "--writes <PART>",
             Choice::Trace => "--trace",
+            Choice::Registers => "--registers",
             Choice::Strict => "--strict",
             Choice::Unit => "--unit <N>",
             Choice::Csv => "--csv",
@@ -68,6 +70,7 @@ fn is_chosen(words: &ArgMatches<'_>, choice: Choice) -> bool
         Choice::Counts => is_set(words, "counts"),
         Choice::Writes => is_given(words, "writes"),
         Choice::Trace => is_set(words, "trace"),
+        Choice::Registers => is_set(words, "registers"),
         Choice::Strict => is_set(words, "strict"),
         Choice::Unit => is_given(words, "unit"),
         Choice::Csv => is_set(words, "csv"),
@@ -118,7 +121,7 @@ fn alone(words: &ArgMatches<'_>) -> Option<Vain>
 pub(crate) fn vain_in(words: &ArgMatches<'_>) -> Option<Vain>
     ensures { result ≡ vain_in (rows_of (found_of words.now)) }
 {
-    use Choice::{Counts, Csv, Json, Latex, Strict, Trace, Unit, Writes};
+    use Choice::{Counts, Csv, Json, Latex, Registers, Strict, Trace, Unit, Writes};
     let pairs = [
         (Counts, Writes),
         (Counts, Trace),
@@ -131,6 +134,11 @@ pub(crate) fn vain_in(words: &ArgMatches<'_>) -> Option<Vain>
         (Strict, Csv),
         (Strict, Json),
         (Strict, Latex),
+        (Registers, Counts),
+        (Registers, Writes),
+        (Registers, Csv),
+        (Registers, Json),
+        (Registers, Latex),
         (Unit, Counts),
         (Unit, Writes),
         (Unit, Csv),

@@ -57,6 +57,7 @@ fn run_plan(alloc: Global, words: &ArgMatches<'_>) -> Result<Plan, AllocError>
         steps: steps(words),
         units: units(words),
         trace: is_set(words, "trace"),
+        registers: is_set(words, "registers"),
         strict: is_set(words, "strict"),
         keep: optional(alloc, words, "keep")?,
         svg: optional(alloc, words, "svg")?,

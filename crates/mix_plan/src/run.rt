@@ -17,6 +17,8 @@ pub struct RunPlan {
     pub units: UnitSet,
     /// Whether each step is written too, or is a row of the table.
     pub trace: bool,
+    /// Whether the registers are written at the end too.
+    pub registers: bool,
     /// Whether the run ends before the first step that conflicts with a transfer under way.
     pub strict: bool,
     /// The file in which the deck of what the units hold at the end is saved.

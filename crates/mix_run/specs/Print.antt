@@ -1,5 +1,5 @@
 -- What a run of a program prints: the rows that its steps write to the card punch, the printer, the typewriter and the paper tape; and the lines of
--- its steps, where it is traced. And which of its steps conflict with a transfer under way, before the first of which a strict run ends.
+-- its steps, where it is traced, and the registers at its end, where they are asked for. And which of its steps conflict with a transfer under way, before the first of which a strict run ends.
 use Rattle.std.specs.Prelude.{ℕ, zero, suc, Bool, ◌+◌, ◌==◌, nat_lt, List, [], ◌∷◌, ◌++◌, length, drop, reverse, flat_map, Option, Some, None, option_map, Result, Ok, Err, if◌then◌else◌}
 use Rattle.mixal_asm.specs.PassOne.{SourceValue, Line, OfLiteral, OfName}
 use Rattle.mixal_asm.specs.Program.{ProgramValue}
@@ -14,6 +14,7 @@ use Rattle.mix_machine.specs.declared.fault.MixFault.{MixFault}
 use Rattle.mix_machine.specs.declared.old.Change.TheVariants.{Step}
 use Rattle.mix_machine.specs.declared.transfers.Conflict.{Conflict}
 use Rattle.mix_session.specs.Change.{change_line}
+use Rattle.mix_session.specs.Show.{registers_text}
 use Rattle.mix_session.specs.ShowUnit.{characters_text}
 use Rattle.mix_run.specs.declared.print.options.PrintOptions.{PrintOptions}
 use Rattle.mix_run.specs.declared.print.options.UnitSet.{UnitSet}
@@ -117,9 +118,21 @@ printed options number zero ts w = ended UsedUp w
 printed options number (suc steps) ts w =
     step_and_rest options number w (conflict_of ts w Step) (does w Step) (λ next. printed options (number + 1) steps (transfers_after ts w Step) next)
 
+-- all steps of a machine
+abbrev pub steps_of : PrintOptions → WorldState → Run
+steps_of options w = printed options 1 options.steps no_transfers w
+
+-- the lines of the registers, if they are asked for
+abbrev pub registers_if : Bool → WorldState → List ℕ
+registers_if asked w = if asked then registers_text w else []
+
+-- a run, behind which the registers at its end are written, if they are asked for
+abbrev pub with_registers : Bool → Run → Run
+with_registers asked run = record run { bytes = run.bytes ++ registers_if asked run.world }
+
 -- the whole run of a machine
 abbrev pub run_of : PrintOptions → WorldState → Run
-run_of options w = printed options 1 options.steps no_transfers w
+run_of options w = with_registers options.registers (steps_of options w)
 
 abbrev pub first_of : List ConflictAt → Option ConflictAt
 first_of [] = None

@@ -166,6 +166,7 @@ options_of run =
       cards = is_some run.cards;
       typewriter = is_some run.typewriter;
       trace = run.trace;
+      registers = run.registers;
       strict = run.strict;
       keep = is_some run.keep;
       table = option_map table_of run.table;

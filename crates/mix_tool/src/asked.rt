@@ -91,6 +91,7 @@ pub(crate) fn options_of(plan: &RunPlan) -> PrintOptions
         cards: plan.cards.is_some(),
         typewriter: plan.typewriter.is_some(),
         trace: plan.trace,
+        registers: plan.registers,
         strict: plan.strict,
         keep: plan.keep.is_some(),
         table: match plan.table {

@@ -1,8 +1,8 @@
 //! A program run on the machine that it is loaded into: where it comes to, and what it leaves.
-ghost use Rattle.std.specs.Prelude.{◌≡◌, ◌<◌, ◌-◌, ◌^◌, [], IfOk, option_and_then};
+ghost use Rattle.std.specs.Prelude.{◌≡◌, ◌++◌, ◌<◌, ◌-◌, ◌^◌, [], IfOk, OnOk, option_and_then};
 ghost use Rattle.mix_machine.specs.Loaded.{loaded};
 ghost use Rattle.mix_run.specs.Keep.{kept_if};
-ghost use Rattle.mix_run.specs.Print.{counted, line_at, run_of};
+ghost use Rattle.mix_run.specs.Print.{counted, line_at, registers_if, run_of};
 ghost use Rattle.mix_run.specs.PrintOutput.{Leaves, answered, came_to};
 ghost use Rattle.mix_run.specs.StepTable.{run_told};
 ghost use Rattle.mix_run.specs.Writes.{Writes};
@@ -17,7 +17,8 @@ use crate::print::watch::Conflicts;
 use crate::print::{PrintAnswer, Printed};
 use mix_machine::{Place, Units, World};
 use mix_refused::Memory;
-use mix_stream::Out;
+use mix_session::registers_lines;
+use mix_stream::{Out, write_all};
 use mixal_asm::{Program, Source};
 use std::alloc::Global;
 
@@ -90,6 +91,41 @@ pub(super) fn left(
     })
 }
 
+// Appends the lines of the registers, if they are asked for.
+fn add_registers(
+    alloc: Global,
+    world: &World,
+    asked: bool,
+    text: &mut Vec<u8>,
+) -> Result<(), Memory>
+    ensures { OnOk result (text.new.items ≡ text.old.items ++ registers_if asked world.now) }
+{
+    if asked {
+        let lines = registers_lines(alloc, world)?;
+        text.extend_from_slice(lines.as_bytes())?;
+    }
+    Ok(())
+}
+
+// Steps and what they print, and then the registers, if they are asked for.
+fn print_run<W: Out>(
+    alloc: Global,
+    world: &mut World,
+    options: PrintOptions,
+    out: &mut W,
+) -> Result<Stepped, ToolFault>
+    requires { W.failed out.old < 2 ^ 64 - 1 }
+    ensures { let run = run_of options world.old in
+        Writes run.bytes (λ s. (s.end ≡ run.end) × (s.conflicts ≡ counted run.met) × (world.new ≡ run.world)) result
+        (W.told out.old) (W.failed out.old) (W.told out.new) (W.failed out.new) }
+{
+    let stepped = print_steps(alloc, world, options, out)?;
+    let mut text = Vec::new(alloc);
+    add_registers(alloc, world, options.registers, &mut text)?;
+    write_all(out, &text)?;
+    Ok(stepped)
+}
+
 /// Steps, and their table if one is asked for, and else what they print.
 pub(super) fn tell_steps<W: Out>(
     alloc: Global,
@@ -105,7 +141,7 @@ pub(super) fn tell_steps<W: Out>(
         (W.told out.old) (W.failed out.old) (W.told out.new) (W.failed out.new) }
 {
     match table {
-        None => print_steps(alloc, world, options, out),
+        None => print_run(alloc, world, options, out),
         Some(table) => write_table(alloc, program, table, options.steps, world, out),
     }
 }
@@ -123,7 +159,7 @@ pub(super) fn print_loaded<W: Out>(
         (W.told out.old) (W.failed out.old) (W.told out.new) (W.failed out.new) }
 {
     let mut world = World::load(alloc, program.words(), program.start(), units)?;
-    let stepped = print_steps(alloc, &mut world, options, out)?;
+    let stepped = print_run(alloc, &mut world, options, out)?;
     let printed = left(
         alloc,
         program,

@@ -1,5 +1,5 @@
 //! What is asked of a run: how many steps, the rows of which units, whether a deck, cards and lines for the typewriter are given, whether its steps
-//! are traced, whether it ends before a conflict, whether what the units hold at the end is kept, whether a table is written, and whether its map is drawn.
+//! are traced, whether the registers are written at its end, whether it ends before a conflict, whether what the units hold at the end is kept, whether a table is written, and whether its map is drawn.
 ghost use Rattle.std.specs.Prelude.{◌≡◌, true, false};
 
 use crate::table::TableFormat;
@@ -62,6 +62,8 @@ pub struct PrintOptions {
     pub typewriter: bool,
     /// Whether the line of each step is written too.
     pub trace: bool,
+    /// Whether the registers, the toggle, the indicator, the location and the clock at the end are written too, where no table is.
+    pub registers: bool,
     /// Whether the run ends before the first step that conflicts with a transfer under way.
     pub strict: bool,
     /// Whether the deck of what the units hold at the end is given.

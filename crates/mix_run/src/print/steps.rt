@@ -2,7 +2,7 @@
 ghost use Rattle.std.specs.Prelude.{◌≡◌, ◌<◌, ◌≤◌, ◌+◌, ◌-◌, ◌^◌, [], IfOk};
 ghost use Rattle.mix_machine.specs.Transfers.{conflict_of};
 ghost use Rattle.mix_machine.specs.declared.old.Change.TheVariants.{Step};
-ghost use Rattle.mix_run.specs.Print.{counted, run_of, stops};
+ghost use Rattle.mix_run.specs.Print.{counted, steps_of, stops};
 ghost use Rattle.mix_run.specs.PrintSteps.{HasCounts, StepMakes, StepNotes, StepPrints, StepStops, is_made};
 ghost use Rattle.mix_run.specs.Writes.{Writes};
 
@@ -68,7 +68,7 @@ pub(super) fn print_steps<W: Out>(
     out: &mut W,
 ) -> Result<Stepped, ToolFault>
     requires { W.failed out.old < 2 ^ 64 - 1 }
-    ensures { let run = run_of options world.old in
+    ensures { let run = steps_of options world.old in
         Writes run.bytes (λ s. (s.end ≡ run.end) × (s.conflicts ≡ counted run.met) × (world.new ≡ run.world)) result
         (W.told out.old) (W.failed out.old) (W.told out.new) (W.failed out.new) }
 {

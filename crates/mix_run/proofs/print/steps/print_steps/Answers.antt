@@ -3,7 +3,7 @@ use Rattle.std.proofs.Common.{◌≡◌, ◌+◌, ◌-◌, ◌∙◌, [], suc, r
 use Rattle.std.proofs.lemmas.Result.{err_from_is_err_and}
 use Rattle.mix_machine.specs.Transfers.{no_transfers, transfers_after}
 use Rattle.mix_machine.specs.declared.old.Change.TheVariants.{Step}
-use Rattle.mix_run.specs.Print.{counted, printed, printed_first, run_of, written_by}
+use Rattle.mix_run.specs.Print.{counted, printed, printed_first, steps_of, written_by}
 use Rattle.mix_run.specs.PrintSteps.{conflicts_after}
 use Rattle.mix_run.proofs.PlainLemmas.{same-counts}
 use Rattle.mix_run.proofs.PrintLemmas.{written-all, written-begun, written-more}
@@ -108,7 +108,7 @@ pub returns-in-Some : goal.returns-in-Some
 returns-in-Some g c =
     let more : c.loop-left.left ≡ suc (c.loop-left.left - 1) = omega (arith, c.loop-left-test.true) in
     let ended = run-ended c.args.options (c.args.options.steps - c.loop-left.left + 1) c.loop-left.left (c.loop-left.left - 1) c.loop-left.records.watch.transfers _
-    c.loop-left.world c.print_step.new.world _ _ _ _ _ _ _ (run_of c.args.options c.args.world.now) more
+    c.loop-left.world c.print_step.new.world _ _ _ _ _ _ _ (steps_of c.args.options c.args.world.now) more
     c.loop-left.invariant.written c.loop-left.invariant.end c.loop-left.invariant.world c.loop-left.invariant.met
     (rw (c.in-Some.is, c.new-text.ensures.items) at c.in_ok-end.ensures.printed) (rw c.in-Some.is at c.in_ok-end.ensures.noted)
     (rw c.deref.ensures.value at c.in_ok-write_all.ensures.written) in

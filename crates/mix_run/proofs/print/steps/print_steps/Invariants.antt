@@ -1,13 +1,13 @@
 use Rattle.std.proofs.Common.{◌≡◌, ◌≤◌, ◌+◌, ◌-◌, ◌++◌, List, ℕ}
 use Rattle.std.specs.Io.KnownBytes.{Appends}
-use Rattle.mix_run.specs.Print.{counted, printed, run_of}
+use Rattle.mix_run.specs.Print.{counted, printed, steps_of}
 use Rattle.mix_run.specs.PrintSteps.{HasCounts, conflicts_after}
 use Rattle.mix_run.proofs.print.steps.print_steps.Given as goal
 
 -- what was printed so far, and what the steps that are left print, is what all of them print; and so are the conflicts
 abbrev pub invariant-loop-left : goal.invariant-loop-left
 invariant-loop-left g l =
-    let whole = run_of l.options l.fn.world in
+    let whole = steps_of l.options l.fn.world in
     let rest = printed l.options (l.options.steps - l.left + 1) l.left l.records.watch.transfers l.world in
     record {
       within : l.left ≤ l.options.steps;
