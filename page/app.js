@@ -9,6 +9,7 @@ import { Listing } from "./listing.js";
 import { Broken, STOPPED } from "./machine.js";
 import { Memory, showRegisters, showSymbols } from "./memory.js";
 import { Heat, TimeMap } from "./pictures.js";
+import { Predict } from "./predict.js";
 import { toldOf } from "./sentence.js";
 import { WHOLE } from "./session.js";
 import { Store } from "./store.js";
@@ -27,6 +28,7 @@ export class App {
     const shown = () => ({ blocks: this.units.requests, field: this.bars.field ?? WHOLE });
     const store = new Store(machine, () => this.texts, shown);
     this.store = store;
+    this.predict = new Predict(store);
     store.on("texts", (begun) => this.showTexts(begun));
     this.listing = new Listing(store, grammar);
     store.on("view", showRegisters);
@@ -109,7 +111,7 @@ export class App {
   }
 
   // The lines of the script that are done are done again, and those that are left are shown.
-  open({ source, deck, done, left, breaks, bars, shown }) {
+  open({ source, deck, done, left, breaks, bars, score, shown }) {
     const { store, listing, talk } = this;
     store.drop();
     return store.add(async () => {
@@ -122,6 +124,7 @@ export class App {
       choose("program");
       for (const line of new Set(breaks)) listing.toggle(line);
       listing.shut(shown.includes("no-words"));
+      this.predict.open(score, shown.includes("predict"));
       $("map-box").open = shown.includes("map");
       talk.lines = [...done, ...left];
       this.isOpening = true;
@@ -134,9 +137,10 @@ export class App {
 
   partsFor(lesson) {
     const { source, deck, cards } = this.texts;
-    const { listing: { breaks, isShut }, talk: { lines: left }, bars: { kept: bars } } = this;
-    const shown = [...(this.map.isOpen ? ["map"] : []), ...(isShut ? ["no-words"] : [])].join(" ");
-    const script = scriptOf({ done: this.store.session?.lines || [], left, breaks, bars, shown, lesson });
+    const { listing: { breaks, isShut }, talk: { lines: left }, bars: { kept: bars }, predict: { kept: score } } = this;
+    const is = { map: this.map.isOpen, "no-words": isShut, predict: $("predict").checked };
+    const shown = Object.keys(is).filter((word) => is[word]).join(" ");
+    const script = scriptOf({ done: this.store.session?.lines || [], left, breaks, bars, score, shown, lesson });
     return { source, deck: withCards(deck, cards), script };
   }
 }

@@ -4,7 +4,8 @@
 const HEADER_OF_CARDS = /^%unit[ \t]+0?16(?![0-9])/i;
 const KEPT = "* Kept by the page, and no commands:";
 const NAMES = {
-  lesson: "lesson", breaks: "breakpoints at lines", bars: "bars", shown: "shown too", left: "still to do",
+  lesson: "lesson", breaks: "breakpoints at lines", bars: "bars", score: "right predictions", shown: "shown too",
+  left: "still to do",
 };
 const remark = (name, text) => `* ${NAMES[name]}: ${text}`;
 const linesOf = (text) => text.split(/\r?\n/);
@@ -46,7 +47,8 @@ export function openedOf({ source, deck, script }, waits) {
   };
   const [done, left, shown] = [lines.slice(0, at), after("left"), after("shown").join(" ").split(" ")];
   const breaks = after("breaks").join(" ").split(" ").map(Number).filter((line) => line > 0);
-  const opened = { source, deck, breaks, shown, bars: after("bars").join(" "), lesson: after("lesson").join(" ") };
+  const [bars, score, lesson] = ["bars", "score", "lesson"].map((name) => after(name).join(" "));
+  const opened = { source, deck, breaks, shown, bars, score, lesson };
   return waits ? { ...opened, done: [], left: [...done, ...left] } : { ...opened, done, left };
 }
 

@@ -18,6 +18,12 @@ export function nameOf(part) {
   return flag || (/^(A|X|J|I\d)$/.test(part) ? `r${part}` : part);
 }
 
+// Whether a conditional jump was taken. If it leads to the next location, and rJ held that already, the
+// machine does not show it.
+export function isJump(/** @type {Change} */ change) {
+  return change.locationAfter !== change.location + 1 || Boolean(itemOf(change, "J"));
+}
+
 const fieldName = (f) => (f === WHOLE ? "" : `(${f >> 3}:${f & 7})`);
 
 function whereIs(location, { lineOf }) {
@@ -68,6 +74,7 @@ function nextOf(/** @type {View} */ view, /** @type {Listing} */ listing) {
   if (isCommand(next)) return `${next.text}: ${listed(alterationsOf(next, view), MOST_PARTS)}`;
   const { operation, field: f, address: m, value } = next.instruction || {};
   const name = named(next, operation, listing);
+  if (view.asked) return name;
   if (!next.items) return `${name}: a step would be a fault, ${next.exceptionId} ${next.description}`;
   const row = OPERATIONS.get(operation);
   const V = `${value} (cell ${m}${fieldName(f)})`;
@@ -88,8 +95,7 @@ function nextOf(/** @type {View} */ view, /** @type {Listing} */ listing) {
   return [name, will, ...(parts.length > 0 ? [listed(parts, MOST_PARTS)] : [])].join(": ");
 }
 
-// Of a view as it is after the change. Where a jump leads to the next location and rJ held it
-// already, the machine does not show whether the program jumped.
+// Of a view as it is after the change.
 function didOf(/** @type {Change} */ change, /** @type {View} */ view, listing) {
   const { location, text, time } = change;
   const { state } = view;
@@ -98,7 +104,7 @@ function didOf(/** @type {Change} */ change, /** @type {View} */ view, listing) 
   const { operation, address } = change.instruction;
   const [row, did] = [OPERATIONS.get(operation), alterationsOf(change, view, operation)];
   if (row.uses === "jump") {
-    const isTaken = ["JMP", "JSJ"].includes(operation) || state.location !== location + 1 || itemOf(change, "J");
+    const isTaken = ["JMP", "JSJ"].includes(operation) || isJump(change);
     const isUnseen = !isTaken && address === String(location + 1);
     const at = whereIs(state.location, listing);
     did.unshift(isTaken ? `jumps to ${at}` : isUnseen ? `goes on at ${at}` : "does not jump");
@@ -130,7 +136,7 @@ export function toldOf(/** @type {Shown} */ { answer, before, view, listing }) {
   const conflict = view.conflict ? `Conflict: ${view.conflict.text}. ` : "";
   if (state.halted) return { last, did: conflict + haltedAt(state, was) + rows, next: "Back takes the HLT back." };
   const begin = listing.breakCells.includes(state.location) ? `Breakpoint at ${at}. ` : "";
-  return { last, did: conflict + begin + wayOf(before, was, state, last, rows), next };
+  return { last, did: (view.judged || "") + conflict + begin + wayOf(before, was, state, last, rows), next };
 }
 
 function haltedAt(/** @type {State} */ { done, clock }, was) {

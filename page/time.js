@@ -1,6 +1,7 @@
 // Buttons, keys and the slider: ways through the changes, and the commands that they are.
 
 import { $, all, choose, on, put } from "./dom.js";
+import { toAnswer } from "./predict.js";
 import { STEPS } from "./sentence.js";
 
 const CONTROLS = all("#time [data-needs]"); // each is of use where there is what it needs
@@ -13,6 +14,7 @@ export class Time {
     this.wanted = undefined; // the moment that the slider asks for
     this.keys = {
       F9: () => listing.ask(listing.source.caretLine),
+      F2: toAnswer,
       F1: () => store.tell(listing.source.caretExplained || "The cursor is at no operation."),
       "Control+Enter": () => {
         const isCommand = document.activeElement === $("command");

@@ -16,7 +16,7 @@ interface State {
   registers: Register[]; cells: Cell[]; altered: string[];
 }
 interface Item { part: string; what?: string; before: string; after: string; beforeValue?: string; afterValue?: string; block?: number }
-interface Change { number: number; location: number; text: string; time: string; items: Item[]; instruction?: Instruction }
+interface Change { number: number; location: number; locationAfter: number; text: string; time: string; items: Item[]; instruction?: Instruction }
 interface Next extends Partial<Change> { exceptionId?: string; description?: string } // no items where it would be a fault
 interface Unit {
   unit: number; kind: string; place: number; blocks: number; delay: string; until: string;
@@ -46,12 +46,14 @@ interface View {
   altered: Set<string>; // parts, by the last change
   conflict?: Conflict; // at which the run stopped
   did?: string; // the sentence of the last change
+  asked?: string; // the part of which a person predicts what the next step makes of it, or "jump"
+  judged?: string; // what is told of the prediction of the last change
 }
 
 interface Shown { answer: Answer | null; before: View | null; view: View; listing: Listing }
 
 // What a bundle holds, to be opened.
-interface Opened { source: string; deck: string; done: string[]; left: string[]; breaks: number[]; bars: string; shown: string[]; lesson: string }
+interface Opened { source: string; deck: string; done: string[]; left: string[]; breaks: number[]; bars: string; score: string; shown: string[]; lesson: string }
 interface Parts { source: string; deck: string; script: string }
 interface Lesson { group: string; name: string; title: string; bundle: Parts; notes: string; answer: string; solution?: Parts }
 

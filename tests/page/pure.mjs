@@ -5,6 +5,7 @@ import { grammarOf } from "../../page/colours.js";
 import { CARD, CHARACTERS, OPERATIONS, PSEUDO, explained, filled, takeTables } from "../../page/operations.js";
 import { upTo } from "../../page/range.js";
 import { Path } from "../../page/path.js";
+import { subjectOf, verdictOn } from "../../page/predict.js";
 import { Session } from "../../page/session.js";
 import { bundleIn, fragmentOf } from "../../page/share.js";
 import { tooLarge } from "../../page/source.js";
@@ -35,6 +36,19 @@ const known = [...OPERATIONS.values()].filter(({ name }) => ["ST6", "SRC", "J5NP
 row("operations: a register, and an F that names it", [OPERATIONS.size, PSEUDO.size, CHARACTERS.length, known], [144, 5, 56, [["SRC", 6, 5, ""], ["ST6", 30, null, "rI6"], ["J5NP", 45, 5, "rI5"]]]);
 for (const { name, sentence } of CARD) row(`operations: the sentence of ${name}`, /[{}]|undefined/.test(filled(sentence, {})), false);
 row("operations: at the pointer", explained("dec2"), "DEC2: rI2 becomes rI2 - M. C = 50, F = 1, 1 u.");
+
+// What is asked of an operation as the change of a number; which answers are right.
+const subject = (operation, number, items = [], address = "100") => subjectOf({ state: { ahead: 0 }, next: { instruction: { operation, address }, items, location: 0, number } });
+const ASKED = { ADD: "A", MUL: "X", DIV: "A", CHAR: "X", SLA: "A", SRC: "X", MOVE: "I1", LD2N: "I2", ST3: "cell 100", STZ: "cell 100", JBUS: "jump", JOV: "jump", J1P: "jump", JMP: "J", INC4: "I4", ENNX: "X", CMP5: "cmp" };
+row("predict: what is asked", Object.fromEntries(Object.keys(ASKED).map((name) => [name, subject(name, 1)])), ASKED);
+row("predict: nothing is asked", [...OPERATIONS.keys()].filter((name) => subject(name, 1) === ""), ["NOP", "HLT", "IOC", "IN", "OUT", "JSJ"]);
+row("predict: rA and rX in turn, overflow", [subject("MUL", 2), subject("INCA", 8), subject("INC1", 8), subject("ADD", 1, [{ part: "over" }])], ["A", "over", "I1", "over"]);
+row("predict: where it would not be seen whether it jumps", subject("JE", 1, [], "1"), "");
+const holding = (word, number) => ({ state: { registers: [{ name: "A", word, number }], cmp: "L", over: true }, wordIn: () => ({ word, number }) });
+const verdicts = (guesses, part, ...given) => guesses.map((guess) => verdictOn(guess, part, holding(...given))?.isRight);
+row("predict: numbers and bytes", verdicts(["-4097", "- 01 00 01", "-00 0 1 0 1", "4097", "01 00 01", "-64 1", "- 4097"], "A", "- 00 00 01 00 01", "-4097"), [true, true, true, false, false, false, true]);
+row("predict: -0", verdicts(["0", "-0", "- 0 0", "0 0", "x", "1 x", "--1"], "cell 5", "- 00 00 00 00 00", "-0"), [true, true, true, false, undefined, undefined, undefined]);
+row("predict: one of some", [verdicts(["less", "equal"], "cmp", "+ 00", "0"), verdicts(["on", "off"], "over", "+ 00", "0")], [[true, false], [true, false]]);
 
 // The first letters of a name that has this colour in the samples of the editors.
 const COLOURS = {
@@ -101,13 +115,13 @@ function toldOf(parts) {
 for (let round = 0; round < 200; round += 1) {
   const [source, cards] = [textOf(some(5, lineOf)), textOf(some(3, () => ["5", "", "A CARD"][drawn(3)]))];
   const done = some(4, () => ["step 4", "", "* mine"][drawn(3)]);
-  const kept = { left: some(2, () => "run 5"), breaks: some(3, () => 1 + drawn(99)), bars: ["", "KEY KEY+N number"][drawn(2)], shown: ["", "map no-words"][drawn(2)], lesson: ["", "05_a/b"][drawn(2)] };
+  const kept = { left: some(2, () => "run 5"), breaks: some(3, () => 1 + drawn(99)), bars: ["", "KEY KEY+N number"][drawn(2)], score: ["", "3 of 5"][drawn(2)], shown: ["", "map no-words"][drawn(2)], lesson: ["", "05_a/b"][drawn(2)] };
   const deck = textOf(some(4, () => ["%UNIT 19 delay 10", "B", ""][drawn(3)]));
   const parts = { source, deck, script: scriptOf({ done, ...kept }) };
   const bundle = bundleOf(parts);
   row("a bundle by its lines", [partsOf(bundle, toldOf(parts)), partsOf(bundle.replaceAll("\n", "\r\n"), toldOf(parts))], [parts, parts]);
   const { shown, ...opened } = openedOf(parts, false);
-  row("a bundle", opened, { source, deck, breaks: kept.breaks, bars: kept.bars, lesson: kept.lesson, done, left: kept.left });
+  row("a bundle", opened, { source, deck, breaks: kept.breaks, bars: kept.bars, score: kept.score, lesson: kept.lesson, done, left: kept.left });
   row("a bundle: what is shown", shown.join(" "), kept.shown);
   row("a bundle that waits", openedOf(parts, true).left, [...done, ...kept.left]);
   const whole = withCards(deck, cards);

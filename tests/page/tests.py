@@ -15,6 +15,7 @@ import layout
 import looks
 import moment
 import nothing_lost
+import predict
 import repairs
 import says
 import seen
@@ -30,7 +31,7 @@ from firefox import Firefox
 from native import Count, Native
 from webkit import WebKit
 
-USES = (uses.examples, uses.breakpoints, uses.slider, uses.who, uses.faults, uses.cards, uses.share, looks.narrow, looks.keys, looks.names, looks.bounds, *repairs.REPAIRS, *says.SAYS, *guards.GUARDS, *layout.LAYOUT, *seen.SEEN, *typing_.TYPING, *bars.BARS, *conflicts.CONFLICTS, *timemap.MAP, *heat.HEAT, *kept.KEPT, *nothing_lost.LOST, *frame.FRAME, *moment.MOMENT, *tour.TOUR, *details.DETAILS, *two.TWO, seen.contrast, timemap.map_time, typing_.key_times, tasks.tasks)
+USES = (uses.examples, uses.breakpoints, uses.slider, uses.who, uses.faults, uses.cards, uses.share, looks.narrow, looks.keys, looks.names, looks.bounds, *repairs.REPAIRS, *says.SAYS, *guards.GUARDS, *layout.LAYOUT, *seen.SEEN, *typing_.TYPING, *bars.BARS, *conflicts.CONFLICTS, *timemap.MAP, *heat.HEAT, *kept.KEPT, *nothing_lost.LOST, *frame.FRAME, *moment.MOMENT, *predict.PREDICT, *tour.TOUR, *details.DETAILS, *two.TWO, seen.contrast, timemap.map_time, typing_.key_times, tasks.tasks)
 IN_CHROMIUM = (looks.names, timemap.map_time, typing_.key_times, seen.contrast, *frame.FRAME)  # what asks Chromium itself
 OTHERS = {"--webkit": WebKit, "--firefox": Firefox}
 WALKS = range(1, 13)

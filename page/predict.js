@@ -1,0 +1,123 @@
+// Predict, then step: a question on the next step, what a person predicts, and the score. What the
+// step did is what the engine says of it.
+
+import { $, make, on, put } from "./dom.js";
+import { heldIn } from "./memory.js";
+import { OPERATIONS, filled } from "./operations.js";
+import { isCommand, isJump, itemOf, nameOf } from "./sentence.js";
+
+const CHOICES = { jump: ["yes", "no"], cmp: ["less", "equal", "greater"], over: ["on", "off"] };
+const MAY_OVERFLOW = /^(ADD|SUB|DIV|INC[AX]|DEC[AX])$/;
+const OVER_EVERY = 8; // so many changes overflow is asked about, even where it stays as it is
+const BECOMES = /\b(r[AXJ]|rI\d|cell \d+)(?: and (rX))?(?: together)? (?:becomes?|is|are) /;
+const nameIn = (part) => (part === "cmp" ? "the comparison" : nameOf(part));
+
+// The part that is asked about, or "jump"; "" where there is nothing to ask. It does not depend on
+// what becomes of a part, so that the question does not give the answer away.
+export function subjectOf(/** @type {View} */ { state, next }) {
+  const { operation, address } = next?.instruction || {};
+  if (!operation || !next.items || state.ahead > 0) return "";
+  const { name, uses, sentence, register } = OPERATIONS.get(operation);
+  if (name.startsWith("CMP")) return "cmp";
+  if (uses === "jump" && sentence.includes(" if ")) return address === String(next.location + 1) ? "" : "jump";
+  const isTurn = MAY_OVERFLOW.test(operation) && next.number % OVER_EVERY === 0;
+  if (isTurn || itemOf(next, "over")) return "over";
+  const told = filled(sentence, { r: register, cell: `cell ${address}` });
+  const parts = (BECOMES.exec(told) || []).slice(1).filter(Boolean);
+  return parts.length > 0 ? parts[next.number % parts.length].replace(/^r/, "") : "";
+}
+
+// A number, or that of some bytes with their sign; nothing where a text is neither.
+function numberIn(text) {
+  const [, sign, digits] = /^([-+]?)\s*(\d+(?:\s+\d+)*)$/.exec(text) || [];
+  if (!digits) return null;
+  const bytes = digits.split(/\s+/).map(Number);
+  const isWrong = bytes.length > 1 && bytes.some((byte) => byte > 63);
+  return isWrong ? NaN : (sign === "-" ? -1 : 1) * bytes.reduce((sum, byte) => 64 * sum + byte);
+}
+
+// Whether a guess is right, and what is the case, told as it was guessed; nothing where it is none.
+// The number of -0 is 0, its bytes have a sign.
+export function verdictOn(guess, part, /** @type {View} */ view) {
+  if (part === "jump") {
+    const jumps = isJump(view.change);
+    return { isRight: jumps === (guess === "yes"), told: `it ${jumps ? "jumps" : "does not jump"}` };
+  }
+  const cells = part.startsWith("cell ") ? [Number(part.slice(5))] : [];
+  const { word, said } = heldIn(view, cells).find((each) => each.part === part);
+  const isBytes = /\d\s+\d/.test(guess);
+  const is = said || (isBytes ? word.word : word.number);
+  const [given, held] = [guess, is].map(numberIn);
+  if (word && given === null) return null;
+  const isRight = said ? guess === said : isBytes ? Object.is(given, held) : given === held;
+  return { isRight, told: `${nameIn(part)} is ${is}${isRight ? "" : `, not ${guess}`}` };
+}
+
+// To the answer, if something is asked.
+export function toAnswer() { if (!$("answers").hidden) ($("choices").firstChild || $("guess")).focus(); }
+
+export class Predict {
+  right = 0;
+  asked = 0; // so many questions were answered
+  isLent = false; // the focus, to Step while there is nothing to ask
+
+  constructor(/** @type {Store} */ store) {
+    store.on("view", (view, _, before) => this.meet(view, before));
+    store.on("texts", () => this.ask(""));
+    on("predict", "change", () => store.session && store.look());
+    on("guess-form", "submit", (event) => {
+      event.preventDefault();
+      $("step").click();
+    });
+  }
+
+  // What a file keeps of the score.
+  get kept() { return this.asked > 0 ? `${this.right} of ${this.asked}` : ""; }
+
+  open(kept, isOn) {
+    [this.right, this.asked] = /^\d+ of \d+$/.test(kept) ? kept.split(" of ").map(Number) : [0, 0];
+    if (isOn) $("predict").checked = true;
+    this.showScore();
+  }
+
+  showScore() { put($("score"), this.kept && `${this.kept} right`); }
+
+  // Before the others are shown a view, which do not see then what is asked.
+  meet(/** @type {View} */ view, /** @type {View} */ before) {
+    const { state, change, inField } = view;
+    const isStep = before?.asked && state.done === before.state.done + 1 && !isCommand(change);
+    const guess = $("guess").value.trim();
+    const verdict = isStep && guess !== "" ? verdictOn(guess, before.asked, view) : null;
+    if (verdict) {
+      this.asked += 1;
+      this.right += verdict.isRight ? 1 : 0;
+      view.judged = `${verdict.isRight ? "Right" : "Wrong"}, ${verdict.told}. `;
+      this.showScore();
+    }
+    view.asked = $("predict").checked ? subjectOf(view) : "";
+    if (before || !view.asked) $("guess").value = "";
+    if (view.asked) {
+      view.next = { ...view.next, items: [] };
+      view.inField = { ...inField, next: view.next };
+    }
+    this.ask(view.asked);
+  }
+
+  // Where the focus is in the answer, it goes to the next one.
+  ask(part) {
+    const [box, step, active] = [$("answers"), $("step"), document.activeElement];
+    const isHere = box.contains(active) || (this.isLent && active === step);
+    const choose = ({ target }) => {
+      $("guess").value = target.textContent;
+      step.click();
+    };
+    const button = (each) => make("button", { type: "button", class: "low", click: choose }, each);
+    put($("question"), part === "jump" ? "Does it jump?" : part && `What is ${nameIn(part)} after it?`);
+    $("choices").replaceChildren(...(CHOICES[part] || []).map(button));
+    $("typed").hidden = part in CHOICES;
+    box.hidden = part === "";
+    this.isLent = isHere && part === "";
+    if (this.isLent) step.focus();
+    else if (isHere) toAnswer();
+  }
+}
