@@ -18,8 +18,8 @@ export function nameOf(part) {
   return flag || (/^(A|X|J|I\d)$/.test(part) ? `r${part}` : part);
 }
 
-// Whether a conditional jump was taken. If it leads to the next location, and rJ held that already, the
-// machine does not show it.
+// Whether a conditional jump was taken. If it leads to the next location, and rJ held that already,
+// the machine does not show it.
 export function isJump(/** @type {Change} */ change) {
   return change.locationAfter !== change.location + 1 || Boolean(itemOf(change, "J"));
 }

@@ -31,7 +31,8 @@ BIG     CON  1073741823
         END  START
 """
 WORD = "+ 00 00 00 00 12"
-# Of each step what is asked, a right answer and a wrong one with what is told; nothing where nothing is asked.
+# Of each step what is asked, a right answer and a wrong one with what is told; or the operation, if
+# nothing is asked.
 ROWS = (
     ("What is rA after it?", ("5", "Right, rA is 5. Did 2 ENTA 5: rA from 0 to 5 (1 u)."), ("6", "Wrong, rA is 5, not 6. Did 2 ENTA 5: rA from 0 to 5 (1 u).")),
     ("What is rA after it?", ("+12", "Right, rA is 12. "), ("-12", "Wrong, rA is 12, not -12. ")),
@@ -131,6 +132,20 @@ def hidden(page, native, count):
     count.same("hidden: and one without questions", len(page.all("#bars .next")), 1)
 
 
+def asked_small(page, native, count):
+    """In a small window the whole question and its answer are seen."""
+    names = "+".join(f"VERYLONG{number}" for number in range(5))
+    begin(page, "".join(f"VERYLONG{number} EQU {number}\n" for number in range(5)) + f" LDA {names}\n JANZ 0\n END 0\n")
+    out = "const p = document.getElementById('did').parentElement.getBoundingClientRect(); return [...document.querySelectorAll('#answers > *')].map((e) => e.getBoundingClientRect()).filter((e) => e.height > 0 && !(e.bottom <= p.bottom && e.right <= p.right)).length"
+    for width, height in ((320, 800), (900, 320), (1024, 768)):
+        page.size(width, height)
+        for row in ("a word", "a jump"):
+            count.same(f"small: {width} x {height}, {row}", page.script(out), 0)
+            page.click("step")
+        page.tab("talk")
+        page.click("anew")
+
+
 def skipped(page, native, count):
     """A step without an answer is counted as neither, going back takes no point away, and what is done again is not asked."""
     begin(page)
@@ -204,4 +219,4 @@ def by_keys(page, native, count):
     count.same("keys: the answer has the question for its name, in what is read out", (page.script(named), page.script("return document.querySelector('[role=status] #answers') !== null")), ([asked(page)] * 2, True))
 
 
-PREDICT = (kinds, hidden, skipped, saved, by_keys)
+PREDICT = (kinds, hidden, asked_small, skipped, saved, by_keys)
