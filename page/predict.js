@@ -12,8 +12,8 @@ const OVER_EVERY = 8; // so many changes overflow is asked about, even where it 
 const BECOMES = /\b(r[AXJ]|rI\d|cell \d+)(?: and (rX))?(?: together)? (?:becomes?|is|are) /;
 const nameIn = (part) => (part === "cmp" ? "the comparison" : nameOf(part));
 
-// The part that is asked about, or "jump"; "" where there is nothing to ask. It does not depend on
-// what becomes of a part, so that the question does not give the answer away.
+// The part that is asked about, or "jump", or "". What becomes of a part does not decide it, so the
+// question does not give the answer away; overflow is asked about at other times too.
 export function subjectOf(/** @type {View} */ { state, next }) {
   const { operation, address } = next?.instruction || {};
   if (!operation || !next.items || state.ahead > 0) return "";
@@ -95,7 +95,7 @@ export class Predict {
       this.showScore();
     }
     view.asked = $("predict").checked ? subjectOf(view) : "";
-    if (before || !view.asked) $("guess").value = "";
+    if (before) $("guess").value = "";
     if (view.asked) {
       view.next = { ...view.next, items: [] };
       view.inField = { ...inField, next: view.next };
@@ -112,6 +112,7 @@ export class Predict {
       step.click();
     };
     const button = (each) => make("button", { type: "button", class: "low", click: choose }, each);
+    if (part === "") $("guess").value = "";
     put($("question"), part === "jump" ? "Does it jump?" : part && `What is ${nameIn(part)} after it?`);
     $("choices").replaceChildren(...(CHOICES[part] || []).map(button));
     $("typed").hidden = part in CHOICES;

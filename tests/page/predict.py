@@ -168,6 +168,11 @@ def skipped(page, native, count):
     page.click("run")
     count.same("skipped: nor is a run", page.text("score"), "1 of 1 right")
     natively("skipped", page, native, count)
+    begin(page)
+    page.one("guess").send_keys("5")
+    page.put("text", " CMPA 100\n HLT\n END 0\n")
+    page.press(Keys.F8)
+    count.same("skipped: what was typed for another text", (page.told(), page.text("score")), ("Did 1 CMPA 100: the comparison stays equal (2 u).", ""))
 
 
 def saved(page, native, count):
