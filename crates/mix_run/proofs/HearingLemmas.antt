@@ -19,7 +19,7 @@ use Rattle.mix_run.specs.Hearing.{Answered, Hears}
 use Rattle.mix_run.specs.Opening.{Files, Saved, noted}
 use Rattle.mix_run.specs.Output.{replies}
 use Rattle.mix_run.specs.Recall.{RecallState, meant, recalled}
-use Rattle.mix_run.specs.Reload.{Moment, moment_of, reloaded}
+use Rattle.mix_run.specs.Reload.{moment_of, reloaded}
 use Rattle.mix_run.specs.Saves.{saves, saves_of}
 use Rattle.mix_run.specs.Sources.{Knows, is_reload, is_source, reads_file, sources_by, stands_by, stands_for}
 use Rattle.mix_run.specs.Stretch.{in_session, joined, silent, talk_of, typed_line}
@@ -31,6 +31,7 @@ use Rattle.mix_run.specs.declared.talk.heard.Heard.{Heard}
 use Rattle.mix_person.specs.declared.person.Line.{Line}
 use Rattle.mix_person.specs.declared.person.Line.TheVariants as line_kind
 use Rattle.mix_run.specs.declared.talk.aside.Talker.{Talker}
+use Rattle.mix_run.specs.declared.talk.moment.Moment.{Moment}
 use Rattle.mix_run.specs.declared.talk.aside.Talker.TheVariants as talkers
 use Rattle.mix_run.proofs.StretchLemmas.{Answered-as, Answered-begun, Answered-nothing, Answered-over, Answered-then, joined-end, talk-append, talk-one, then-more}
 use Rattle.mix_run.proofs.TalkLemmas.{lines-append, long-first, or-true, parts-clear, quit-recalled, quit-said, quit-saves, whole-append}
@@ -88,25 +89,39 @@ pub reloaded-known : (held : Option Files) (all : Files) (talker : Talker) (line
     → held ≡ Some all
 reloaded-known held all talker line reloads known = known-of held all talker line (ap (λ v. v || is_source talker line) reloads) known
 
-module _ {d f : Option (List Saved)} (o : OriginValue) (s now : SessionState) (talker : Talker) (r last : RecallState) (line : List ℕ) (a b : Option (List ℕ))
-    (session : now ≡ after_lines s (meant s talker r line)) (recall : last ≡ recalled s talker r line)
-    (written : Appends a b (replies s (meant s talker r line)).bytes) (saved : f ≡ noted d (saves_of o talker r line)) where
+-- two moments whose parts are the same
+same-moment : (m now : Moment) → now.session ≡ m.session → now.recall ≡ m.recall → now.origin ≡ m.origin → now ≡ m
+same-moment m now session recall origin = ap₂ (λ x y. moment_of x y now.origin) session recall ∙ ap (moment_of m.session m.recall) origin
+
+module _ {d f : Option (List Saved)} (m now : Moment) (talker : Talker) (line : List ℕ) (a b : Option (List ℕ))
+    (session : now.session ≡ after_lines m.session (meant m.session talker m.recall line)) (recall : now.recall ≡ recalled m.session talker m.recall line)
+    (origin : now.origin ≡ m.origin) (written : Appends a b (replies m.session (meant m.session talker m.recall line)).bytes)
+    (saved : f ≡ noted d (saves_of m.origin talker m.recall line)) where
+  abbrev s : SessionState
+  s = m.session
+
+  abbrev r : RecallState
+  r = m.recall
+
+  abbrev o : OriginValue
+  o = m.origin
+
   pub Answered-one : (told : Told) → is_quit talker line ≡ false → told ≡ (replies s (meant s talker r line)).told
-      → Answered (in_session (moment_of s r o) talker (line ∷ [])) (moment_of now last o) told false d f a b
+      → Answered (in_session m talker (line ∷ [])) now told false d f a b
   Answered-one told quit is =
       let all : asked s talker r (line ∷ []) ≡ meant s talker r line = rw quit (append-nil (meant s talker r line)) in
       let later : recalled_all s talker r (line ∷ []) ≡ recalled s talker r line = rw quit refl in
       let still : is_over talker (line ∷ []) ≡ false = rw quit refl in
       let files : saves o s talker r (line ∷ []) ≡ saves_of o talker r line = rw quit (append-nil (saves_of o talker r line)) in
       record {
-        moment = ap₂ (λ x y. moment_of x y o) (session ∙ ap (after_lines s) (sym all)) (recall ∙ sym later);
+        moment = same-moment _ now (session ∙ ap (after_lines s) (sym all)) (recall ∙ sym later) origin;
         told = is ∙ ap (λ l. (replies s l).told) (sym all);
         over = sym still;
         written = Appends-same a b _ _ (ap (λ l. (replies s l).bytes) (sym all)) written;
         saved = saved ∙ ap (noted d) (sym files);
       }
 
-  pub Answered-quit : is_quit talker line ≡ true → Answered (in_session (moment_of s r o) talker (line ∷ [])) (moment_of now last o) Accepted true d f a b
+  pub Answered-quit : is_quit talker line ≡ true → Answered (in_session m talker (line ∷ [])) now Accepted true d f a b
   Answered-quit quit =
       let none : asked s talker r (line ∷ []) ≡ [] = rw quit refl in
       let later : recalled_all s talker r (line ∷ []) ≡ r = rw quit refl in
@@ -114,7 +129,7 @@ module _ {d f : Option (List Saved)} (o : OriginValue) (s now : SessionState) (t
       let files : saves o s talker r (line ∷ []) ≡ [] = rw quit refl in
       let said = quit-said s talker r line quit in
       record {
-        moment = ap₂ (λ x y. moment_of x y o) (session ∙ ap (after_lines s) (said ∙ sym none)) (recall ∙ quit-recalled s talker r line quit ∙ sym later);
+        moment = same-moment _ now (session ∙ ap (after_lines s) (said ∙ sym none)) (recall ∙ quit-recalled s talker r line quit ∙ sym later) origin;
         told = ap (λ l. (replies s l).told) (sym none);
         over = sym ended;
         written = Appends-same a b _ _ (ap (λ l. (replies s l).bytes) (said ∙ sym none)) written;
@@ -156,15 +171,17 @@ pub Answered-reload : {d f : Option (List Saved)} (all : Files) (m now : Moment)
 Answered-reload all m now talker line a reloads is unsaved = rw reloads (record { moment = is; told = refl; over = refl; written = Appends-nothing a; saved = unsaved })
 
 -- what is said of the lines of a text one by one
-pub answered-lines : (d f : Option (List Saved)) (a b : Option (List ℕ)) (o : OriginValue) (s now : SessionState) (talker : Talker) (r last : RecallState)
+pub answered-lines : (d f : Option (List Saved)) (a b : Option (List ℕ)) (m now : Moment) (talker : Talker)
     (xs : List (List ℕ)) (result : Result Heard ToolFault)
-    → IfOk result (λ h. (h.told ≡ (answers s talker r xs).told) × Appends a b (answers s talker r xs).bytes)
-    → IfOk result (λ h. h.is_over ≡ is_over talker xs) → IfOk result (λ _. now ≡ after_lines s (asked s talker r xs))
-    → IfOk result (λ _. last ≡ recalled_all s talker r xs) → OnOk result (f ≡ noted d (saves o s talker r xs))
-    → IfOk result (λ h. Answered (in_session (moment_of s r o) talker xs) (moment_of now last o) h.told h.is_over d f a b)
-answered-lines d f a b o s now talker r last xs (Ok h) said over session recall saved =
-    record { moment = ap₂ (λ x y. moment_of x y o) session recall; told = said.0; over = over; written = said.1; saved = saved }
-answered-lines d f a b o s now talker r last xs (Err fault) said over session recall saved = tt
+    → IfOk result (λ h. (h.told ≡ (answers m.session talker m.recall xs).told) × Appends a b (answers m.session talker m.recall xs).bytes)
+    → IfOk result (λ h. h.is_over ≡ is_over talker xs)
+    → IfOk result (λ _. now.session ≡ after_lines m.session (asked m.session talker m.recall xs))
+    → IfOk result (λ _. now.recall ≡ recalled_all m.session talker m.recall xs) → now.origin ≡ m.origin
+    → OnOk result (f ≡ noted d (saves m.origin m.session talker m.recall xs))
+    → IfOk result (λ h. Answered (in_session m talker xs) now h.told h.is_over d f a b)
+answered-lines d f a b m now talker xs (Ok h) said over session recall origin saved =
+    record { moment = same-moment _ now session recall origin; told = said.0; over = over; written = said.1; saved = saved }
+answered-lines d f a b m now talker xs (Err fault) said over session recall origin saved = tt
 
 -- ---- one typed line more
 

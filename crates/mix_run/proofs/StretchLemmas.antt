@@ -7,9 +7,9 @@ use Rattle.mix_session.specs.declared.reply.Told.TheVariants.{Accepted}
 use Rattle.mix_stream.specs.Stream.{AppendsFront}
 use Rattle.mix_run.specs.Hearing.{Answered}
 use Rattle.mix_run.specs.Opening.{Files, Saved, noted}
-use Rattle.mix_run.specs.Reload.{Moment}
 use Rattle.mix_run.specs.Stretch.{Stretch, joined, silent, talk_of, typed_line}
 use Rattle.mix_run.specs.declared.talk.aside.Talker.{Talker}
+use Rattle.mix_run.specs.declared.talk.moment.Moment.{Moment}
 use Rattle.mix_run.proofs.RunLemmas.{both-accepted, both-assoc}
 use Rattle.mix_run.proofs.TalkLemmas.{noted-then}
 use Rattle.mix_run.proofs.Written.{Appends-nothing, Appends-then, AppendsFront-after}

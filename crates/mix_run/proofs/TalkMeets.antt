@@ -22,10 +22,11 @@ use Rattle.mix_run.specs.declared.fault.ToolFault.{ToolFault}
 use Rattle.mix_run.specs.declared.fault.ToolFault.TheVariants as faults
 use Rattle.mix_run.specs.Output.{DeckRefused, Ended, Meets, Replies, max_script_bytes, outcome_of, outcome_of_script, refusal_of, replies, status_of}
 use Rattle.mix_run.specs.Talk.{AnswersRead, Talks, TalksWith, status_from}
-use Rattle.mix_run.specs.Reload.{Moment, begun}
+use Rattle.mix_run.specs.Reload.{begun}
 use Rattle.mix_run.specs.Stretch.{talk_of}
 use Rattle.mix_run.specs.UnitsRead.{GivesUnits}
 use Rattle.mix_run.specs.declared.talk.aside.Talker.{Talker}
+use Rattle.mix_run.specs.declared.talk.moment.Moment.{Moment}
 use Rattle.mix_run.specs.declared.talk.aside.Talker.TheVariants.{Program}
 use Rattle.mix_run.proofs.RunLemmas.{Keeps-same, Meets-unread, both-accepted}
 use Rattle.std.specs.Prelude.{OnOk}

@@ -5,11 +5,11 @@ use Rattle.std.specs.Io.KnownBytes.{Appends}
 use Rattle.mix_lines.specs.Lines.{is_line_feed, lines}
 use Rattle.mix_session.specs.declared.reply.Told.{Told}
 use Rattle.mix_run.specs.Opening.{Files, Saved, noted}
-use Rattle.mix_run.specs.Reload.{Moment}
 use Rattle.mix_run.specs.Sources.{Knows}
 use Rattle.mix_run.specs.Stretch.{Stretch, talk_of}
 use Rattle.mix_run.specs.Talk.{is_whole}
 use Rattle.mix_run.specs.declared.talk.aside.Talker.{Talker}
+use Rattle.mix_run.specs.declared.talk.moment.Moment.{Moment}
 
 -- a stretch of the talk was answered, and led to this moment
 pub record Answered (was : Stretch) (now : Moment) (said : Told) (ends : Bool) (before kept : Option (List Saved)) (old new : Option (List ℕ)) : Type 0 where

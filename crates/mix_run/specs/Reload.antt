@@ -13,12 +13,7 @@ use Rattle.mix_run.specs.Bundle.{OriginValue}
 use Rattle.mix_run.specs.PrintOutput.{parts_of}
 use Rattle.mix_run.specs.Recall.{RecallState, nothing}
 use Rattle.mix_run.specs.declared.reason.Reason.{Reason}
-
--- a talk at one moment: its session, what is recalled, and what it is about
-pub record Moment : Type 0 where
-  pub session : SessionState
-  pub recall : RecallState
-  pub origin : OriginValue
+use Rattle.mix_run.specs.declared.talk.moment.Moment.{Moment}
 
 abbrev pub moment_of : SessionState → RecallState → OriginValue → Moment
 moment_of s r origin = record { session = s; recall = r; origin = origin }

@@ -5,10 +5,11 @@ use Rattle.mix_session.specs.declared.reply.Told.{Told}
 use Rattle.mix_session.specs.declared.reply.Told.TheVariants.{Accepted}
 use Rattle.mix_run.specs.Asked.{after_lines, answers, asked, is_over, recalled_all}
 use Rattle.mix_run.specs.Opening.{Files, Saved}
-use Rattle.mix_run.specs.Reload.{Moment, moment_of, reloaded}
+use Rattle.mix_run.specs.Reload.{moment_of, reloaded}
 use Rattle.mix_run.specs.Saves.{saves}
 use Rattle.mix_run.specs.Sources.{is_reload, stands_for}
 use Rattle.mix_run.specs.declared.talk.aside.Talker.{Talker}
+use Rattle.mix_run.specs.declared.talk.moment.Moment.{Moment}
 
 -- a stretch of a talk: the moment that it leads to, the replies, whether each command was accepted, whether a line ended the talk, and what was saved
 pub record Stretch : Type 0 where

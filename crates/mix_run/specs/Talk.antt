@@ -16,10 +16,11 @@ use Rattle.mix_run.specs.Bundle.{OriginValue}
 use Rattle.mix_run.specs.Debug.{origin_given}
 use Rattle.mix_run.specs.Opening.{Files}
 use Rattle.mix_run.specs.Output.{DeckRefused, Meets, refusal_of, status_of}
-use Rattle.mix_run.specs.Reload.{Moment, begun}
+use Rattle.mix_run.specs.Reload.{begun}
 use Rattle.mix_run.specs.Stretch.{talk_of}
 use Rattle.mix_stream.specs.Stream.{AppendsFront}
 use Rattle.mix_run.specs.declared.talk.aside.Talker.{Talker}
+use Rattle.mix_run.specs.declared.talk.moment.Moment.{Moment}
 
 -- how many bytes a line of a talk may have
 abbrev pub max_line_bytes : ℕ
@@ -59,13 +60,16 @@ abbrev pub status_from : Result Told ToolFault → Result ℕ ToolFault
 status_from (Ok told) = Ok (status_of told)
 status_from (Err fault) = Err fault
 
+-- the same with the status of what is answered
+abbrev pub TalksTo : Files → Moment → Talker → List ℕ → Result ℕ ToolFault → Option (List ℕ) → Option (List ℕ) → Option (List ℕ) → Type 0
+TalksTo all m talker text result left old new = (talk : Result Told ToolFault) × (result ≡ status_from talk) × Talks all m talker text talk left old new
+
 -- A talk with the program of a source and the units of a deck: where one of them is refused, that is answered.
 abbrev pub TalksWith : Files → OriginValue → Result ProgramValue AsmFault → Result UnitsState DeckFault → Talker → List ℕ → Result ℕ ToolFault
     → Option (List ℕ) → Option (List ℕ) → Option (List ℕ) → Type 0
 TalksWith all origin (Err fault) units talker text result left old new = Meets (refusal_of fault) result old new
 TalksWith all origin (Ok program) (Err fault) talker text result left old new = Meets (DeckRefused fault) result old new
-TalksWith all origin (Ok program) (Ok units) talker text result left old new =
-    (talk : Result Told ToolFault) × (result ≡ status_from talk) × Talks all (begun origin program units) talker text talk left old new
+TalksWith all origin (Ok program) (Ok units) talker text result left old new = TalksTo all (begun origin program units) talker text result left old new
 
 -- a talk about a text of this name, with its own deck or with one that is given
 abbrev pub TalksFrom : Files → List ℕ → Bool → List ℕ → List ℕ → Talker → List ℕ → Result ℕ ToolFault → Option (List ℕ) → Option (List ℕ)

@@ -37,4 +37,4 @@ pub use reason::Reason;
 pub use run::{DebugOptions, run_debug};
 pub use statuses::{DONE, NOT_DONE, SOURCE_REFUSED};
 pub use table::TableFormat;
-pub use talk::{Streams, Talker, run_talk};
+pub use talk::{Streams, TalkTexts, Talker, run_talk};

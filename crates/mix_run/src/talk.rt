@@ -29,6 +29,7 @@ mod finish;
 mod heard;
 mod input;
 mod listing;
+mod moment;
 mod opened;
 mod pending;
 mod points;
@@ -56,6 +57,13 @@ pub struct Streams<R, W, E> {
     pub errors: E,
 }
 
+/// What a talk reads before its lines: a source or a bundle, and a deck.
+#[derive(Drop)]
+pub struct TalkTexts<S, D> {
+    pub source: S,
+    pub deck: D,
+}
+
 /// Assembles a source, or that of a bundle, takes the deck of the bundle, or reads one if `given` is true, which then is in the place of that, and talks
 /// with the loaded machine: each line of the input is a command, as a line of a script is, which is done and answered before the next is read. A person
 /// is told the warnings of the source on the error output, greeted and prompted there, and has `help`, `save`, `source`, `reload` and `quit` beside the
@@ -68,70 +76,69 @@ pub struct Streams<R, W, E> {
 pub fn run_talk<O: Opener, S: In, D: In, R: In, W: Out, E: Out>(
     alloc: Global,
     name: &str,
-    source: &mut S,
-    deck: &mut D,
+    texts: &mut TalkTexts<S, D>,
     given: bool,
     files: &mut O,
     streams: &mut Streams<R, W, E>,
 ) -> Result<u8, ToolFault>
-    requires source_count { S.failed source.old < 2 ^ 64 - 1 }
-    requires deck_count { D.failed deck.old < 2 ^ 64 - 1 }
+    requires source_count { S.failed texts.old.source < 2 ^ 64 - 1 }
+    requires deck_count { D.failed texts.old.deck < 2 ^ 64 - 1 }
     requires input_count { R.failed streams.old.input < 2 ^ 64 - 1 }
     requires out_count { W.failed streams.old.out < 2 ^ 64 - 1 }
 
     // What is written are the replies to the lines, each before the next is read; where a line sources a file, to the lines of it, and after a line that
     // reloads the source, in the machine of that. These are known if it is known what the files hold, or no line reads one.
-    ensures talks { (all : Files) (s d t : List ℕ) → S.rest source.old ≡ Some s → D.rest deck.old ≡ Some d → R.rest streams.old.input ≡ Some t
+    ensures talks { (all : Files) (s d t : List ℕ) → S.rest texts.old.source ≡ Some s → D.rest texts.old.deck ≡ Some d → R.rest streams.old.input ≡ Some t
         → Knows (O.holds files.old) all streams.old.talker (lines t) → TalksFrom all name.now given s d streams.old.talker t result (R.rest streams.new.input) (W.told streams.old.out) (W.told streams.new.out) }
 
     // Where no read fails, it is what a script of these lines writes.
-    ensures as_script { (s d t : List ℕ) → S.rest source.old ≡ Some s → D.rest deck.old ≡ Some d → R.rest streams.old.input ≡ Some t
+    ensures as_script { (s d t : List ℕ) → S.rest texts.old.source ≡ Some s → D.rest texts.old.deck ≡ Some d → R.rest streams.old.input ≡ Some t
         → streams.old.talker ≡ Talker.Program → length t ≤ max_script_bytes → result ≢ Err ToolFault.Read
         → Meets (debug_output false given s d t) result (W.told streams.old.out) (W.told streams.new.out) }
 
     // T6 is answered only where a line is longer than one may be, unless the input has 2^64 - 1 bytes or more; so never for many short lines.
-    ensures long { result ≡ Err ToolFault.Long → (d t : List ℕ) → D.rest deck.old ≡ Some d → R.rest streams.old.input ≡ Some t → max_script_bytes < length t }
-    ensures long_line { result ≡ Err ToolFault.Long → (d t : List ℕ) → D.rest deck.old ≡ Some d → R.rest streams.old.input ≡ Some t
+    ensures long { result ≡ Err ToolFault.Long → (d t : List ℕ) → D.rest texts.old.deck ≡ Some d → R.rest streams.old.input ≡ Some t → max_script_bytes < length t }
+    ensures long_line { result ≡ Err ToolFault.Long → (d t : List ℕ) → D.rest texts.old.deck ≡ Some d → R.rest streams.old.input ≡ Some t
         → length t < 2 ^ 64 - 1 → list_any is_too_long (lines t) ≡ true }
 
     // A read or a write has failed exactly where that is answered.
-    ensures read { CountsFailure (result ≡ Err ToolFault.Read) (S.failed source.old + D.failed deck.old + R.failed streams.old.input)
-        (S.failed source.new + D.failed deck.new + R.failed streams.new.input) }
-    ensures reads { (S.failed source.old ≤ S.failed source.new) × (D.failed deck.old ≤ D.failed deck.new)
+    ensures read { CountsFailure (result ≡ Err ToolFault.Read) (S.failed texts.old.source + D.failed texts.old.deck + R.failed streams.old.input)
+        (S.failed texts.new.source + D.failed texts.new.deck + R.failed streams.new.input) }
+    ensures reads { (S.failed texts.old.source ≤ S.failed texts.new.source) × (D.failed texts.old.deck ≤ D.failed texts.new.deck)
         × (R.failed streams.old.input ≤ R.failed streams.new.input) }
     ensures write { CountsFailure (result ≡ Err ToolFault.Write) (W.failed streams.old.out) (W.failed streams.new.out) }
 
     // Never more is read of the source and the deck.
-    ensures source { ConsumesAtMost (S.rest source.old) (S.rest source.new) (max_bundle_bytes + 1) }
-    ensures deck { ConsumesAtMost (D.rest deck.old) (D.rest deck.new) (max_deck_bytes + 1) }
+    ensures source { ConsumesAtMost (S.rest texts.old.source) (S.rest texts.new.source) (max_bundle_bytes + 1) }
+    ensures deck { ConsumesAtMost (D.rest texts.old.deck) (D.rest texts.new.deck) (max_deck_bytes + 1) }
 
     // A deck that is not given is not read.
-    ensures no_deck { given ≡ false → deck.new ≡ deck.old }
+    ensures no_deck { given ≡ false → texts.new.deck ≡ texts.old.deck }
 
     // After a refusal nothing else is read.
-    ensures source_refused { result ≡ Ok 1 → (deck.new ≡ deck.old) × (streams.new.input ≡ streams.old.input) }
+    ensures source_refused { result ≡ Ok 1 → (texts.new.deck ≡ texts.old.deck) × (streams.new.input ≡ streams.old.input) }
     ensures deck_refused { (f : DeckFault) → result ≡ Err (ToolFault.Deck f) → streams.new.input ≡ streams.old.input }
 
     // Nor is it after a source or a deck that is to be refused, whatever the call answers.
-    ensures bad_source { (s : List ℕ) (f : AsmFault) → S.rest source.old ≡ Some s → assembly (parts_of s).source ≡ Err f
-        → (deck.new ≡ deck.old) × (streams.new.input ≡ streams.old.input) }
-    ensures bad_deck { (s d : List ℕ) (f : DeckFault) → S.rest source.old ≡ Some s → D.rest deck.old ≡ Some d
+    ensures bad_source { (s : List ℕ) (f : AsmFault) → S.rest texts.old.source ≡ Some s → assembly (parts_of s).source ≡ Err f
+        → (texts.new.deck ≡ texts.old.deck) × (streams.new.input ≡ streams.old.input) }
+    ensures bad_deck { (s d : List ℕ) (f : DeckFault) → S.rest texts.old.source ≡ Some s → D.rest texts.old.deck ≡ Some d
         → deck_of (deck_given given (parts_of s).deck d) ≡ Err f → streams.new.input ≡ streams.old.input }
 
     // Nor after a read that failed.
-    ensures source_failed { S.failed source.old < S.failed source.new → (deck.new ≡ deck.old) × (streams.new.input ≡ streams.old.input) }
-    ensures deck_failed { D.failed deck.old < D.failed deck.new → streams.new.input ≡ streams.old.input }
+    ensures source_failed { S.failed texts.old.source < S.failed texts.new.source → (texts.new.deck ≡ texts.old.deck) × (streams.new.input ≡ streams.old.input) }
+    ensures deck_failed { D.failed texts.old.deck < D.failed texts.new.deck → streams.new.input ≡ streams.old.input }
 
     // Each is read when the one before it has been read up to its end or its limit.
-    ensures in_turn { (s : List ℕ) → S.rest source.old ≡ Some s
-        → ((deck.new ≡ deck.old) × (streams.new.input ≡ streams.old.input)) ⊎ (S.rest source.new ≡ Some (drop (max_bundle_bytes + 1) s)) }
-    ensures input_in_turn { (d : List ℕ) → D.rest deck.old ≡ Some d → given ≡ true
-        → (streams.new.input ≡ streams.old.input) ⊎ (D.rest deck.new ≡ Some (drop (max_deck_bytes + 1) d)) }
+    ensures in_turn { (s : List ℕ) → S.rest texts.old.source ≡ Some s
+        → ((texts.new.deck ≡ texts.old.deck) × (streams.new.input ≡ streams.old.input)) ⊎ (S.rest texts.new.source ≡ Some (drop (max_bundle_bytes + 1) s)) }
+    ensures input_in_turn { (d : List ℕ) → D.rest texts.old.deck ≡ Some d → given ≡ true
+        → (streams.new.input ≡ streams.old.input) ⊎ (D.rest texts.new.deck ≡ Some (drop (max_deck_bytes + 1) d)) }
     ensures ends { IfOk result IsStatus }
 
     // What a person saves is each time the bundle of what was done so far, with the source that was loaded last, under the name that is said; a program
     // saves nothing.
-    ensures saved { (all : Files) (s d t : List ℕ) (p : ProgramValue) (u : UnitsState) → S.rest source.old ≡ Some s → D.rest deck.old ≡ Some d
+    ensures saved { (all : Files) (s d t : List ℕ) (p : ProgramValue) (u : UnitsState) → S.rest texts.old.source ≡ Some s → D.rest texts.old.deck ≡ Some d
         → R.rest streams.old.input ≡ Some t → Knows (O.holds files.old) all streams.old.talker (lines t) → assembly (parts_of s).source ≡ Ok p
         → deck_of (deck_given given (parts_of s).deck d) ≡ Ok u
         → OnOk result (O.saved files.new ≡ noted (O.saved files.old) (talk_of all (begun (origin_given name.now given s d) p u) streams.old.talker (lines t)).saved) }
@@ -139,5 +146,5 @@ pub fn run_talk<O: Opener, S: In, D: In, R: In, W: Out, E: Out>(
     ensures unasked { O.asked files.new ≡ O.asked files.old }
     ensures untouched { streams.old.talker ≡ Talker.Program → files.new ≡ files.old }
 {
-    talk_of_source(alloc, name, source, deck, given, files, streams)
+    talk_of_source(alloc, name, texts, given, files, streams)
 }

@@ -7,7 +7,7 @@ ghost use Rattle.mix_tool.specs.Plan.{AreFresh, DebugsOn, Given, HoldTexts, is_t
 use crate::ending::{status, status_beside, unread};
 use crate::texts::Texts;
 use mix_plan::DebugPlan;
-use mix_run::{DebugOptions, Opener, Streams, run_debug, run_talk};
+use mix_run::{DebugOptions, Opener, Streams, TalkTexts, run_debug, run_talk};
 use mix_stream::{In, Out};
 use std::alloc::Global;
 
@@ -52,9 +52,10 @@ pub(crate) fn debug_on<O: Opener, R: In, W: Out, E: Out>(
             status(alloc, outcome, Some(file), &mut streams.errors)
         }
         None => {
-            let outcome = run_talk(alloc, name, &mut source, &mut deck, given, files, streams);
-            let failures = (deck.failures(), 0);
-            let file = if source.failures() > 0 || failures.0 > 0 {
+            let mut texts = TalkTexts { source, deck };
+            let outcome = run_talk(alloc, name, &mut texts, given, files, streams);
+            let failures = (texts.deck.failures(), 0);
+            let file = if texts.source.failures() > 0 || failures.0 > 0 {
                 Some(unread(name, plan.devices.as_deref(), None, failures))
             } else {
                 None

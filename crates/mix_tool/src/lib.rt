@@ -21,8 +21,8 @@ pub use mix_plan::{DebugPlan, Plan, RunPlan};
 pub use mix_run::{
     AsmFault, AsmKind, ConflictAt, Conflicts, Counted, DeckFault, DeckKind, Failed, In, MixFault,
     Opener, Out, PrintAnswer, PrintOptions, PrintTexts, RanTo, Reason, Refusal, RunEnd, Session,
-    Streams, Talker, Told, ToolFault, UnitSet, Unread, Unsaved, back_and_forth_law, run_bundle,
-    run_debug, run_list, run_printed, run_talk,
+    Streams, TalkTexts, Talker, Told, ToolFault, UnitSet, Unread, Unsaved, back_and_forth_law,
+    run_bundle, run_debug, run_list, run_printed, run_talk,
 };
 pub use plan::run_plan;
 pub use system::SystemFiles;

@@ -12,7 +12,6 @@ ghost use Rattle.mix_run.specs.Recall.{meant, meant_by, recalled, recalled_by, r
 ghost use Rattle.mix_run.specs.Saves.{saves_of};
 ghost use Rattle.mix_stream.specs.Stream.{AppendsFront, CountsFailure};
 
-use crate::bundle::Origin;
 use crate::commands::command;
 use crate::fault::ToolFault;
 use crate::opener::Opener;
@@ -20,6 +19,7 @@ use crate::talk::aside::{Talker, after_reply, help, say_bytes, tell};
 use crate::talk::asked::{Point, point_in};
 use crate::talk::done::done;
 use crate::talk::listing::list;
+use crate::talk::moment::Moment;
 use crate::talk::recall::Recall;
 use crate::talk::source::refuse_in_file;
 use crate::talk::stopped::{tell_more, tell_run, tell_too_many};
@@ -98,9 +98,7 @@ fn answer_command<W: Out, E: Out>(
 // A person's line: the command that it stands for is executed, help is given, and what was done is saved. A line that sources a file or reloads
 // is one of such a file: it is refused. Whether the command was accepted; none where the line ends the talk.
 fn answer_person<O: Opener, W: Out, E: Out>(
-    session: &mut Session,
-    recall: &mut Recall,
-    origin: &Origin,
+    moment: &mut Moment,
     line: &[u8],
     files: &mut O,
     out: &mut W,
@@ -108,17 +106,23 @@ fn answer_person<O: Opener, W: Out, E: Out>(
 ) -> Result<Option<Told>, ToolFault>
     requires { W.failed out.old < 2 ^ 64 - 1 }
     ensures quit { IfOk result (λ answer. (answer ≡ None) ↔ (is_quit Talker.Person line.now ≡ true)) }
-    ensures told { IfOk result (λ answer. IfSome answer (λ told. told ≡ (replies session.old (meant session.old Talker.Person recall.old line.now)).told)) }
-    ensures written { OnOk result (Appends (W.told out.old) (W.told out.new) (replies session.old (meant session.old Talker.Person recall.old line.now)).bytes) }
-    ensures session { OnOk result (session.new ≡ after_lines session.old (meant session.old Talker.Person recall.old line.now)) }
-    ensures recall { OnOk result (recall.new ≡ recalled session.old Talker.Person recall.old line.now) }
-    ensures saved { OnOk result (O.saved files.new ≡ noted (O.saved files.old) (saves_of origin.now Talker.Person recall.old line.now)) }
+    ensures told { IfOk result (λ answer. IfSome answer (λ told. told ≡ (replies moment.old.session (meant moment.old.session Talker.Person moment.old.recall line.now)).told)) }
+    ensures written { OnOk result (Appends (W.told out.old) (W.told out.new) (replies moment.old.session (meant moment.old.session Talker.Person moment.old.recall line.now)).bytes) }
+    ensures session { OnOk result (moment.new.session ≡ after_lines moment.old.session (meant moment.old.session Talker.Person moment.old.recall line.now)) }
+    ensures recall { OnOk result (moment.new.recall ≡ recalled moment.old.session Talker.Person moment.old.recall line.now) }
+    ensures origin { moment.new.origin ≡ moment.old.origin }
+    ensures saved { OnOk result (O.saved files.new ≡ noted (O.saved files.old) (saves_of moment.old.origin Talker.Person moment.old.recall line.now)) }
     ensures unasked { O.asked files.new ≡ O.asked files.old }
     ensures held { O.holds files.new ≡ O.holds files.old }
-    ensures begun { AppendsFront (W.told out.old) (W.told out.new) (replies session.old (meant session.old Talker.Person recall.old line.now)).bytes }
+    ensures begun { AppendsFront (W.told out.old) (W.told out.new) (replies moment.old.session (meant moment.old.session Talker.Person moment.old.recall line.now)).bytes }
     ensures write { CountsFailure (result ≡ Err ToolFault.Write) (W.failed out.old) (W.failed out.new) }
     ensures only { IfErr result IsMemoryOrWrite }
 {
+    let Moment {
+        session,
+        recall,
+        origin,
+    } = moment;
     let typed = recall.line(session, line)?;
     match kind_of(line) {
         Line::Quit => return Ok(None),
@@ -142,10 +146,8 @@ fn answer_person<O: Opener, W: Out, E: Out>(
 
 /// One line: the commands that it stands for are executed, and a person is given help. Whether each was accepted; none where the line ends the talk.
 pub(crate) fn answer_line<O: Opener, W: Out, E: Out>(
-    session: &mut Session,
+    moment: &mut Moment,
     talker: Talker,
-    recall: &mut Recall,
-    origin: &Origin,
     line: &[u8],
     files: &mut O,
     out: &mut W,
@@ -153,14 +155,15 @@ pub(crate) fn answer_line<O: Opener, W: Out, E: Out>(
 ) -> Result<Option<Told>, ToolFault>
     requires { W.failed out.old < 2 ^ 64 - 1 }
     ensures quit { IfOk result (λ answer. (answer ≡ None) ↔ (is_quit talker line.now ≡ true)) }
-    ensures told { IfOk result (λ answer. IfSome answer (λ told. told ≡ (replies session.old (meant session.old talker recall.old line.now)).told)) }
-    ensures written { OnOk result (Appends (W.told out.old) (W.told out.new) (replies session.old (meant session.old talker recall.old line.now)).bytes) }
-    ensures session { OnOk result (session.new ≡ after_lines session.old (meant session.old talker recall.old line.now)) }
-    ensures recall { OnOk result (recall.new ≡ recalled session.old talker recall.old line.now) }
-    ensures saved { OnOk result (O.saved files.new ≡ noted (O.saved files.old) (saves_of origin.now talker recall.old line.now)) }
+    ensures told { IfOk result (λ answer. IfSome answer (λ told. told ≡ (replies moment.old.session (meant moment.old.session talker moment.old.recall line.now)).told)) }
+    ensures written { OnOk result (Appends (W.told out.old) (W.told out.new) (replies moment.old.session (meant moment.old.session talker moment.old.recall line.now)).bytes) }
+    ensures session { OnOk result (moment.new.session ≡ after_lines moment.old.session (meant moment.old.session talker moment.old.recall line.now)) }
+    ensures recall { OnOk result (moment.new.recall ≡ recalled moment.old.session talker moment.old.recall line.now) }
+    ensures origin { moment.new.origin ≡ moment.old.origin }
+    ensures saved { OnOk result (O.saved files.new ≡ noted (O.saved files.old) (saves_of moment.old.origin talker moment.old.recall line.now)) }
     ensures unasked { O.asked files.new ≡ O.asked files.old }
     ensures held { O.holds files.new ≡ O.holds files.old }
-    ensures begun { AppendsFront (W.told out.old) (W.told out.new) (replies session.old (meant session.old talker recall.old line.now)).bytes }
+    ensures begun { AppendsFront (W.told out.old) (W.told out.new) (replies moment.old.session (meant moment.old.session talker moment.old.recall line.now)).bytes }
     ensures write { CountsFailure (result ≡ Err ToolFault.Write) (W.failed out.old) (W.failed out.new) }
     ensures only { IfErr result IsMemoryOrWrite }
     ensures quiet { talker ≡ Talker.Program → errors.new ≡ errors.old }
@@ -168,9 +171,9 @@ pub(crate) fn answer_line<O: Opener, W: Out, E: Out>(
 {
     match talker {
         Talker::Program => {
-            let told = command(session, line, out)?;
+            let told = command(&mut moment.session, line, out)?;
             Ok(Some(told))
         }
-        Talker::Person => answer_person(session, recall, origin, line, files, out, errors),
+        Talker::Person => answer_person(moment, line, files, out, errors),
     }
 }

@@ -6,6 +6,7 @@ ghost use Rattle.mix_run.specs.Recall.{after_read, after_request};
 ghost use Rattle.mix_session.specs.Session.{request_in};
 
 use crate::beside::tell_report;
+use crate::talk::moment::Moment;
 use mix_lines::{Words, split_line};
 use mix_machine::Place;
 use mix_person::{form_of, help_on, shown_part};
@@ -42,19 +43,14 @@ pub(crate) fn say_bytes<E: Out>(text: &[u8], errors: &mut E) {
 }
 
 /// Greets a person, once, after the warnings of the source.
-pub(crate) fn greet<E: Out>(
-    alloc: Global,
-    name: &str,
-    source: &[u8],
-    talker: Talker,
-    errors: &mut E,
-)
+pub(crate) fn greet<E: Out>(moment: &Moment, talker: Talker, errors: &mut E)
     ensures { talker ≡ Talker.Program → errors.new ≡ errors.old }
 {
     match talker {
         Talker::Program => {}
         Talker::Person => {
-            tell_report(alloc, name, source, errors);
+            let (alloc, origin) = (moment.recall.allocator(), &moment.origin);
+            tell_report(alloc, origin.name(), origin.source(), errors);
             say(GREETING, errors);
         }
     }

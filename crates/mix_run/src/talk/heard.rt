@@ -7,22 +7,20 @@ ghost use Rattle.mix_run.specs.Asked.{after_lines, answers, asked, is_over, reca
 ghost use Rattle.mix_run.specs.Fault.{IsMemoryOrWrite};
 ghost use Rattle.mix_run.specs.Hearing.{Answered};
 ghost use Rattle.mix_run.specs.Opening.{Files, noted};
-ghost use Rattle.mix_run.specs.Reload.{moment_of};
 ghost use Rattle.mix_run.specs.Saves.{saves};
 ghost use Rattle.mix_run.specs.Sources.{Knows};
 ghost use Rattle.mix_run.specs.Stretch.{in_session, talk_of, typed_line};
 ghost use Rattle.mix_stream.specs.Stream.{AppendsFront, CountsFailure};
 
-use crate::bundle::Origin;
 use crate::fault::ToolFault;
 use crate::opener::Opener;
 use crate::talk::answer::answer_line;
 use crate::talk::aside::{Talker, prompt};
-use crate::talk::recall::Recall;
+use crate::talk::moment::Moment;
 use crate::talk::reload::{is_reload, reload};
 use crate::talk::source::text_sourced;
 use mix_lines::split_line;
-use mix_session::{Session, Told};
+use mix_session::Told;
 use mix_stream::Out;
 
 /// What became of some lines: whether each command was accepted, and whether one of them ended the talk.
@@ -34,25 +32,24 @@ pub(super) struct Heard {
 
 // The lines of a file that is sourced, one after the other, up to the one that ends the talk.
 fn answer_lines<O: Opener, W: Out, E: Out>(
-    session: &mut Session,
+    moment: &mut Moment,
     talker: Talker,
-    recall: &mut Recall,
-    origin: &Origin,
     text: &[u8],
     files: &mut O,
     out: &mut W,
     errors: &mut E,
 ) -> Result<Heard, ToolFault>
     requires { W.failed out.old < 2 ^ 64 - 1 }
-    ensures replies { let all = answers session.old talker recall.old (lines text.now) in
+    ensures replies { let all = answers moment.old.session talker moment.old.recall (lines text.now) in
         IfOk result (λ heard. (heard.told ≡ all.told) × Appends (W.told out.old) (W.told out.new) all.bytes) }
     ensures over { IfOk result (λ heard. heard.is_over ≡ is_over talker (lines text.now)) }
-    ensures session { IfOk result (λ _. session.new ≡ after_lines session.old (asked session.old talker recall.old (lines text.now))) }
-    ensures recall { IfOk result (λ _. recall.new ≡ recalled_all session.old talker recall.old (lines text.now)) }
-    ensures saved { OnOk result (O.saved files.new ≡ noted (O.saved files.old) (saves origin.now session.old talker recall.old (lines text.now))) }
+    ensures session { IfOk result (λ _. moment.new.session ≡ after_lines moment.old.session (asked moment.old.session talker moment.old.recall (lines text.now))) }
+    ensures recall { IfOk result (λ _. moment.new.recall ≡ recalled_all moment.old.session talker moment.old.recall (lines text.now)) }
+    ensures origin { moment.new.origin ≡ moment.old.origin }
+    ensures saved { OnOk result (O.saved files.new ≡ noted (O.saved files.old) (saves moment.old.origin moment.old.session talker moment.old.recall (lines text.now))) }
     ensures unasked { O.asked files.new ≡ O.asked files.old }
     ensures held { O.holds files.new ≡ O.holds files.old }
-    ensures begun { AppendsFront (W.told out.old) (W.told out.new) (answers session.old talker recall.old (lines text.now)).bytes }
+    ensures begun { AppendsFront (W.told out.old) (W.told out.new) (answers moment.old.session talker moment.old.recall (lines text.now)).bytes }
     ensures write { CountsFailure (result ≡ Err ToolFault.Write) (W.failed out.old) (W.failed out.new) }
     ensures only { IfErr result IsMemoryOrWrite }
     ensures quiet { talker ≡ Talker.Program → errors.new ≡ errors.old }
@@ -62,7 +59,7 @@ fn answer_lines<O: Opener, W: Out, E: Out>(
     let mut rest = text;
     while !rest.is_empty() {
         let (line, after) = split_line(rest);
-        match answer_line(session, talker, recall, origin, line, files, out, errors)? {
+        match answer_line(moment, talker, line, files, out, errors)? {
             None => {
                 return Ok(Heard {
                     told,
@@ -81,19 +78,17 @@ fn answer_lines<O: Opener, W: Out, E: Out>(
 
 // A line that stands for itself.
 fn answer_itself<O: Opener, W: Out, E: Out>(
-    session: &mut Session,
+    moment: &mut Moment,
     talker: Talker,
-    recall: &mut Recall,
-    origin: &Origin,
     line: &[u8],
     files: &mut O,
     out: &mut W,
     errors: &mut E,
 ) -> Result<Heard, ToolFault>
     requires { W.failed out.old < 2 ^ 64 - 1 }
-    ensures answered { IfOk result (λ now. Answered (in_session (moment_of session.old recall.old origin.now) talker (line.now ∷ []))
-        (moment_of session.new recall.new origin.now) now.told now.is_over (O.saved files.old) (O.saved files.new) (W.told out.old) (W.told out.new)) }
-    ensures begun { AppendsFront (W.told out.old) (W.told out.new) (answers session.old talker recall.old (line.now ∷ [])).bytes }
+    ensures answered { IfOk result (λ now. Answered (in_session moment.old talker (line.now ∷ []))
+        moment.new now.told now.is_over (O.saved files.old) (O.saved files.new) (W.told out.old) (W.told out.new)) }
+    ensures begun { AppendsFront (W.told out.old) (W.told out.new) (answers moment.old.session talker moment.old.recall (line.now ∷ [])).bytes }
     ensures unasked { O.asked files.new ≡ O.asked files.old }
     ensures held { O.holds files.new ≡ O.holds files.old }
     ensures write { CountsFailure (result ≡ Err ToolFault.Write) (W.failed out.old) (W.failed out.new) }
@@ -101,7 +96,7 @@ fn answer_itself<O: Opener, W: Out, E: Out>(
     ensures quiet { talker ≡ Talker.Program → errors.new ≡ errors.old }
     ensures untouched { talker ≡ Talker.Program → files.new ≡ files.old }
 {
-    match answer_line(session, talker, recall, origin, line, files, out, errors)? {
+    match answer_line(moment, talker, line, files, out, errors)? {
         None => {
             Ok(Heard {
                 told: Told::Accepted,
@@ -119,10 +114,8 @@ fn answer_itself<O: Opener, W: Out, E: Out>(
 
 // A typed line: the source is reloaded, or the lines that it stands for are answered.
 fn answer_typed<O: Opener, W: Out, E: Out>(
-    session: &mut Session,
+    moment: &mut Moment,
     talker: Talker,
-    recall: &mut Recall,
-    origin: &mut Origin,
     line: &[u8],
     files: &mut O,
     out: &mut W,
@@ -130,10 +123,10 @@ fn answer_typed<O: Opener, W: Out, E: Out>(
 ) -> Result<Heard, ToolFault>
     requires { W.failed out.old < 2 ^ 64 - 1 }
     ensures answered { (all : Files) → Knows (O.holds files.old) all talker (line.now ∷ [])
-        → IfOk result (λ now. Answered (typed_line all (moment_of session.old recall.old origin.old) talker line.now)
-        (moment_of session.new recall.new origin.new) now.told now.is_over (O.saved files.old) (O.saved files.new) (W.told out.old) (W.told out.new)) }
+        → IfOk result (λ now. Answered (typed_line all moment.old talker line.now)
+        moment.new now.told now.is_over (O.saved files.old) (O.saved files.new) (W.told out.old) (W.told out.new)) }
     ensures begun { (all : Files) → Knows (O.holds files.old) all talker (line.now ∷ [])
-        → AppendsFront (W.told out.old) (W.told out.new) (typed_line all (moment_of session.old recall.old origin.old) talker line.now).bytes }
+        → AppendsFront (W.told out.old) (W.told out.new) (typed_line all moment.old talker line.now).bytes }
     ensures unasked { O.asked files.new ≡ O.asked files.old }
     ensures held { O.holds files.new ≡ O.holds files.old }
     ensures write { CountsFailure (result ≡ Err ToolFault.Write) (W.failed out.old) (W.failed out.new) }
@@ -142,24 +135,22 @@ fn answer_typed<O: Opener, W: Out, E: Out>(
     ensures untouched { talker ≡ Talker.Program → files.new ≡ files.old }
 {
     if is_reload(talker, line) {
-        reload(session, recall, origin, files, errors)?;
+        reload(moment, files, errors)?;
         return Ok(Heard {
             told: Told::Accepted,
             is_over: false,
         });
     }
-    match text_sourced(recall.allocator(), talker, line, files, errors)? {
-        Some(text) => answer_lines(session, talker, recall, origin, &text, files, out, errors),
-        None => answer_itself(session, talker, recall, origin, line, files, out, errors),
+    match text_sourced(moment.recall.allocator(), talker, line, files, errors)? {
+        Some(text) => answer_lines(moment, talker, &text, files, out, errors),
+        None => answer_itself(moment, talker, line, files, out, errors),
     }
 }
 
 /// The lines of a text, each before the next, up to the one that ends the talk; a person is prompted after each.
 pub(super) fn answer_text<O: Opener, W: Out, E: Out>(
-    session: &mut Session,
+    moment: &mut Moment,
     talker: Talker,
-    recall: &mut Recall,
-    origin: &mut Origin,
     text: &[u8],
     files: &mut O,
     out: &mut W,
@@ -167,10 +158,10 @@ pub(super) fn answer_text<O: Opener, W: Out, E: Out>(
 ) -> Result<Heard, ToolFault>
     requires { W.failed out.old < 2 ^ 64 - 1 }
     ensures answered { (all : Files) → Knows (O.holds files.old) all talker (lines text.now)
-        → IfOk result (λ now. Answered (talk_of all (moment_of session.old recall.old origin.old) talker (lines text.now))
-        (moment_of session.new recall.new origin.new) now.told now.is_over (O.saved files.old) (O.saved files.new) (W.told out.old) (W.told out.new)) }
+        → IfOk result (λ now. Answered (talk_of all moment.old talker (lines text.now))
+        moment.new now.told now.is_over (O.saved files.old) (O.saved files.new) (W.told out.old) (W.told out.new)) }
     ensures begun { (all : Files) → Knows (O.holds files.old) all talker (lines text.now)
-        → AppendsFront (W.told out.old) (W.told out.new) (talk_of all (moment_of session.old recall.old origin.old) talker (lines text.now)).bytes }
+        → AppendsFront (W.told out.old) (W.told out.new) (talk_of all moment.old talker (lines text.now)).bytes }
     ensures unasked { O.asked files.new ≡ O.asked files.old }
     ensures held { O.holds files.new ≡ O.holds files.old }
     ensures write { CountsFailure (result ≡ Err ToolFault.Write) (W.failed out.old) (W.failed out.new) }
@@ -182,7 +173,7 @@ pub(super) fn answer_text<O: Opener, W: Out, E: Out>(
     let mut rest = text;
     while !rest.is_empty() {
         let (line, after) = split_line(rest);
-        let now = answer_typed(session, talker, recall, origin, line, files, out, errors)?;
+        let now = answer_typed(moment, talker, line, files, out, errors)?;
         told = told.and(now.told);
         if now.is_over {
             return Ok(Heard {

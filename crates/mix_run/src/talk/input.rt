@@ -5,22 +5,20 @@ ghost use Rattle.std.specs.List.{list_any};
 ghost use Rattle.mix_lines.specs.Lines.{lines};
 ghost use Rattle.mix_machine.specs.declared.units.deck_fault.DeckFault.{DeckFault};
 ghost use Rattle.mix_run.specs.Opening.{Files, noted};
-ghost use Rattle.mix_run.specs.Recall.{nothing};
-ghost use Rattle.mix_run.specs.Reload.{moment_of};
 ghost use Rattle.mix_run.specs.Sources.{Knows};
 ghost use Rattle.mix_run.specs.Stretch.{talk_of};
 ghost use Rattle.mix_run.specs.Talk.{Talks, is_too_long, max_line_bytes};
 ghost use Rattle.mix_stream.specs.Stream.{CountsFailure};
 
-use crate::bundle::Origin;
 use crate::fault::ToolFault;
 use crate::opener::Opener;
+use crate::talk::Streams;
 use crate::talk::aside::{Talker, end_prompt, prompt};
 use crate::talk::heard::answer_text;
+use crate::talk::moment::Moment;
 use crate::talk::pending::take_lines;
-use crate::talk::recall::Recall;
 use mix_refused::Memory;
-use mix_session::{Session, Told};
+use mix_session::Told;
 use mix_stream::{CHUNK, In, Out};
 
 /// The most bytes that a line of a talk may have with its end, which has at most two.
@@ -29,53 +27,40 @@ const MAX_WHOLE_LINE_BYTES: usize = 1_048_578;
 /// Executes the lines of an input as they come, up to its end or to the line that ends the talk. It fails with T1 where memory is refused,
 /// with T2 or T3 where a read or a write fails, and with T6 where a line has over 1,048,576 bytes.
 pub(crate) fn talk<O: Opener, R: In, W: Out, E: Out>(
-    session: &mut Session,
-    talker: Talker,
-    mut recall: Recall,
-    origin: &mut Origin,
+    moment: &mut Moment,
     files: &mut O,
-    input: &mut R,
-    out: &mut W,
-    errors: &mut E,
+    streams: &mut Streams<R, W, E>,
 ) -> Result<Told, ToolFault>
-    requires input_count { R.failed input.old < 2 ^ 64 - 1 }
-    requires out_count { W.failed out.old < 2 ^ 64 - 1 }
-    requires recall { recall ≡ nothing }
-    ensures talks { (all : Files) (t : List ℕ) → R.rest input.old ≡ Some t → Knows (O.holds files.old) all talker (lines t)
-        → Talks all (moment_of session.old nothing origin.old) talker t result (R.rest input.new) (W.told out.old) (W.told out.new) }
-    ensures saved { (all : Files) (t : List ℕ) → R.rest input.old ≡ Some t → Knows (O.holds files.old) all talker (lines t)
-        → OnOk result (O.saved files.new ≡ noted (O.saved files.old) (talk_of all (moment_of session.old nothing origin.old) talker (lines t)).saved) }
+    requires input_count { R.failed streams.old.input < 2 ^ 64 - 1 }
+    requires out_count { W.failed streams.old.out < 2 ^ 64 - 1 }
+    ensures talks { (all : Files) (t : List ℕ) → R.rest streams.old.input ≡ Some t → Knows (O.holds files.old) all streams.old.talker (lines t)
+        → Talks all moment.old streams.old.talker t result (R.rest streams.new.input) (W.told streams.old.out) (W.told streams.new.out) }
+    ensures saved { (all : Files) (t : List ℕ) → R.rest streams.old.input ≡ Some t → Knows (O.holds files.old) all streams.old.talker (lines t)
+        → OnOk result (O.saved files.new ≡ noted (O.saved files.old) (talk_of all moment.old streams.old.talker (lines t)).saved) }
     ensures unasked { O.asked files.new ≡ O.asked files.old }
-    ensures long { result ≡ Err ToolFault.Long → (t : List ℕ) → R.rest input.old ≡ Some t → max_line_bytes < length t }
-    ensures long_line { result ≡ Err ToolFault.Long → (t : List ℕ) → R.rest input.old ≡ Some t → length t < 2 ^ 64 - 1 → list_any is_too_long (lines t) ≡ true }
-    ensures read { CountsFailure (result ≡ Err ToolFault.Read) (R.failed input.old) (R.failed input.new) }
+    ensures long { result ≡ Err ToolFault.Long → (t : List ℕ) → R.rest streams.old.input ≡ Some t → max_line_bytes < length t }
+    ensures long_line { result ≡ Err ToolFault.Long → (t : List ℕ) → R.rest streams.old.input ≡ Some t → length t < 2 ^ 64 - 1 → list_any is_too_long (lines t) ≡ true }
+    ensures read { CountsFailure (result ≡ Err ToolFault.Read) (R.failed streams.old.input) (R.failed streams.new.input) }
     ensures deck { (f : DeckFault) → result ≢ Err (ToolFault.Deck f) }
-    ensures write { CountsFailure (result ≡ Err ToolFault.Write) (W.failed out.old) (W.failed out.new) }
-    ensures quiet { talker ≡ Talker.Program → errors.new ≡ errors.old }
-    ensures untouched { talker ≡ Talker.Program → files.new ≡ files.old }
+    ensures write { CountsFailure (result ≡ Err ToolFault.Write) (W.failed streams.old.out) (W.failed streams.new.out) }
+    ensures quiet { streams.old.talker ≡ Talker.Program → streams.new.errors ≡ streams.old.errors }
+    ensures untouched { streams.old.talker ≡ Talker.Program → files.new ≡ files.old }
 {
-    let alloc = recall.allocator();
+    let talker = streams.talker;
+    let alloc = moment.recall.allocator();
     let mut pending = Vec::new(alloc);
     let mut buffer = [0; CHUNK];
     let mut told = Told::Accepted;
-    prompt(talker, errors);
+    prompt(talker, &mut streams.errors);
     for reads in 0..u64::MAX {
-        let count = match input.read(&mut buffer) {
+        let count = match streams.input.read(&mut buffer) {
             Ok(count) => count,
             Err(_) => return Err(ToolFault::Read),
         };
+        let (out, errors) = (&mut streams.out, &mut streams.errors);
         if count == 0 {
             end_prompt(talker, errors);
-            match answer_text(
-                session,
-                talker,
-                &mut recall,
-                origin,
-                &pending,
-                files,
-                out,
-                errors,
-            ) {
+            match answer_text(moment, talker, &pending, files, out, errors) {
                 Ok(heard) => return Ok(told.and(heard.told)),
                 Err(fault) => return Err(fault),
             }
@@ -84,16 +69,7 @@ pub(crate) fn talk<O: Opener, R: In, W: Out, E: Out>(
             Ok(text) => text,
             Err(Memory) => return Err(ToolFault::Memory),
         };
-        let heard = match answer_text(
-            session,
-            talker,
-            &mut recall,
-            origin,
-            &text,
-            files,
-            out,
-            errors,
-        ) {
+        let heard = match answer_text(moment, talker, &text, files, out, errors) {
             Ok(heard) => heard,
             Err(fault) => return Err(fault),
         };

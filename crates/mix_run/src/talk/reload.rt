@@ -7,16 +7,16 @@ ghost use Rattle.mix_session.specs.Command.{after};
 ghost use Rattle.mix_session.specs.Session.{effect_in};
 ghost use Rattle.mix_run.specs.Asked.{after_lines};
 ghost use Rattle.mix_run.specs.Opening.{Files};
-ghost use Rattle.mix_run.specs.Reload.{moment_of, reloaded, reloaded_as};
+ghost use Rattle.mix_run.specs.Reload.{reloaded, reloaded_as};
 ghost use Rattle.mix_run.specs.Sources.{is_reload};
 
 use crate::beside::tell_report;
-use crate::bundle::{MAX_BUNDLE_BYTES, Origin, copy_of, parts_of};
+use crate::bundle::{MAX_BUNDLE_BYTES, copy_of, parts_of};
 use crate::opener::Opener;
 use crate::talk::aside::{After, Talker, say, say_bytes, tell};
 use crate::talk::done::answer_to;
 use crate::talk::file::tell_file;
-use crate::talk::recall::Recall;
+use crate::talk::moment::Moment;
 use crate::talk::source::tell_unread;
 use mix_lines::split_line;
 use mix_machine::Units;
@@ -80,17 +80,19 @@ fn redo<E: Out>(session: &mut Session, script: &[u8], errors: &mut E) -> Result<
 
 // The program of a source takes the place of the one before it. A person is told what comes next, and what is displayed, as after each stop.
 fn reload_program<E: Out>(
-    session: &mut Session,
-    recall: &Recall,
-    origin: &mut Origin,
+    moment: &mut Moment,
     program: Program,
     source: &[u8],
     errors: &mut E,
 ) -> Result<(), Memory>
-    ensures reloaded { OnOk result (moment_of session.new recall.now origin.new
-        ≡ reloaded_as source.now (Ok program) (moment_of session.old recall.now origin.old)) }
-    ensures kept { OnErr result ((session.new ≡ session.old) × (origin.new ≡ origin.old)) }
+    ensures reloaded { OnOk result (moment.new ≡ reloaded_as source.now (Ok program) moment.old) }
+    ensures kept { OnErr result (moment.new ≡ moment.old) }
 {
+    let Moment {
+        session,
+        recall,
+        origin,
+    } = moment;
     let alloc = recall.allocator();
     let units = match Units::read(alloc, origin.deck()) {
         Ok(units) => units,
@@ -110,23 +112,16 @@ fn reload_program<E: Out>(
 }
 
 // A source that was read is assembled; a person is told why it is refused.
-fn reload_source<E: Out>(
-    session: &mut Session,
-    recall: &Recall,
-    origin: &mut Origin,
-    source: &[u8],
-    errors: &mut E,
-) -> Result<(), Memory>
-    ensures reloaded { OnOk result (moment_of session.new recall.now origin.new
-        ≡ reloaded_as source.now (assembly source.now) (moment_of session.old recall.now origin.old)) }
-    ensures kept { OnErr result ((session.new ≡ session.old) × (origin.new ≡ origin.old)) }
+fn reload_source<E: Out>(moment: &mut Moment, source: &[u8], errors: &mut E) -> Result<(), Memory>
+    ensures reloaded { OnOk result (moment.new ≡ reloaded_as source.now (assembly source.now) moment.old) }
+    ensures kept { OnErr result (moment.new ≡ moment.old) }
 {
-    let alloc = recall.allocator();
+    let alloc = moment.recall.allocator();
     match assemble(alloc, source) {
-        Ok(program) => reload_program(session, recall, origin, program, source, errors),
+        Ok(program) => reload_program(moment, program, source, errors),
         Err(Refused::Memory) => Err(Memory),
         Err(Refused::Fault(_)) => {
-            tell_report(alloc, origin.name(), source, errors);
+            tell_report(alloc, moment.origin.name(), source, errors);
             Ok(())
         }
     }
@@ -135,22 +130,19 @@ fn reload_source<E: Out>(
 /// Reads the source again, and does in the machine that it loads what was done so far; of a bundle the deck is not read again. If it can't be read or
 /// is refused, a person is told why, and all is as it was; so it is where memory is refused.
 pub(crate) fn reload<O: Opener, E: Out>(
-    session: &mut Session,
-    recall: &Recall,
-    origin: &mut Origin,
+    moment: &mut Moment,
     files: &mut O,
     errors: &mut E,
 ) -> Result<(), Memory>
-    ensures reloaded { (all : Files) → O.holds files.old ≡ Some all → OnOk result (moment_of session.new recall.now origin.new
-        ≡ reloaded (all origin.old.name) (moment_of session.old recall.now origin.old)) }
-    ensures kept { OnErr result ((session.new ≡ session.old) × (origin.new ≡ origin.old)) }
+    ensures reloaded { (all : Files) → O.holds files.old ≡ Some all → OnOk result (moment.new ≡ reloaded (all moment.old.origin.name) moment.old) }
+    ensures kept { OnErr result (moment.new ≡ moment.old) }
     ensures held { O.holds files.new ≡ O.holds files.old }
     ensures unasked { O.asked files.new ≡ O.asked files.old }
     ensures unsaved { O.saved files.new ≡ O.saved files.old }
 {
-    let name = origin.name();
-    match files.read(recall.allocator(), name.as_bytes(), MAX_BUNDLE_BYTES + 1) {
-        Ok(text) => reload_source(session, recall, origin, parts_of(&text).source, errors),
+    let (alloc, name) = (moment.recall.allocator(), moment.origin.name());
+    match files.read(alloc, name.as_bytes(), MAX_BUNDLE_BYTES + 1) {
+        Ok(text) => reload_source(moment, parts_of(&text).source, errors),
         Err(Refused::Memory) => Err(Memory),
         Err(Refused::Fault(unread)) => {
             tell_unread(unread, name.as_bytes(), errors);

@@ -7,12 +7,12 @@ use Rattle.mix_run.proofs.talk.heard.answer_lines.Goals as goal
 
 pub returns-in_err-answer_line-clause-begun : goal.returns-in_err-answer_line-clause-begun
 returns-in_err-answer_line-clause-begun g c =
-    begun-one c.loop-rest.session c.args.talker c.loop-rest.recall _ _ _ c.split_line.ensures.lines _ _ _ _ c.loop-rest.invariant.written
+    begun-one c.loop-rest.moment.session c.args.talker c.loop-rest.moment.recall _ _ _ c.split_line.ensures.lines _ _ _ _ c.loop-rest.invariant.written
     c.answer_line.ensures.begun
 
 pub returns-in-None-clause-begun : goal.returns-in-None-clause-begun
 returns-in-None-clause-begun g c =
-    begun-one c.loop-rest.session c.args.talker c.loop-rest.recall _ _ _ c.split_line.ensures.lines _ _ _ _ c.loop-rest.invariant.written
+    begun-one c.loop-rest.moment.session c.args.talker c.loop-rest.moment.recall _ _ _ c.split_line.ensures.lines _ _ _ _ c.loop-rest.invariant.written
     c.answer_line.ensures.begun
 
 pub loop-rest-preserved : goal.loop-rest-preserved
@@ -21,8 +21,8 @@ loop-rest-preserved g c =
     let answer = c.in_ok-answer_line.ensures in
     let goes_on = not_so _ (λ e. let none = answer.quit.1 e in let some = c.in-Some.is in cc) in
     let talker = c.args.talker in
-    let s = c.loop-rest.session in
-    let r = c.loop-rest.recall in
+    let s = c.loop-rest.moment.session in
+    let r = c.loop-rest.moment.recall in
     record {
       written = written-one s talker r _ _ _ split _ _ goes_on answer.session answer.recall _ _ _ _ c.loop-rest.invariant.written answer.written;
       told = rw c.and-told.ensures
@@ -30,9 +30,10 @@ loop-rest-preserved g c =
       over = c.loop-rest.invariant.over ∙ over-one s talker r _ _ _ split goes_on;
       session = c.loop-rest.invariant.session ∙ after-one s talker r _ _ _ split _ _ goes_on answer.session answer.recall;
       recall = c.loop-rest.invariant.recall ∙ recall-one s talker r _ _ _ split _ _ goes_on answer.session answer.recall;
+      origin = answer.origin ∙ c.loop-rest.invariant.origin;
       failed = answer.write.1 (λ e. cc) ∙ c.loop-rest.invariant.failed;
       quiet = λ e. answer.quiet e ∙ c.loop-rest.invariant.quiet e;
-      saved = saved-one s talker r _ _ _ split _ _ goes_on answer.session answer.recall c.args.origin.now _ _ _ c.loop-rest.invariant.saved answer.saved;
+      saved = saved-one s talker r _ _ _ split _ _ goes_on answer.session answer.recall c.args.moment.now.origin _ _ _ c.loop-rest.invariant.saved (rw c.loop-rest.invariant.origin at answer.saved);
       unasked = answer.unasked ∙ c.loop-rest.invariant.unasked;
       held = answer.held ∙ c.loop-rest.invariant.held;
       untouched = λ e. answer.untouched e ∙ c.loop-rest.invariant.untouched e;
@@ -41,37 +42,37 @@ loop-rest-preserved g c =
 pub returns-clause-replies : goal.returns-clause-replies
 returns-clause-replies g c =
     let none = nil-from_length _ (sym c.loop-rest-test.false ∙ c.is_empty.ensures) in (
-      all-reported c.loop-rest.session c.args.talker c.loop-rest.recall _ none _ _ c.loop-rest.invariant.told,
-      all-answered c.loop-rest.session c.args.talker c.loop-rest.recall _ none _ _ _ c.loop-rest.invariant.written,
+      all-reported c.loop-rest.moment.session c.args.talker c.loop-rest.moment.recall _ none _ _ c.loop-rest.invariant.told,
+      all-answered c.loop-rest.moment.session c.args.talker c.loop-rest.moment.recall _ none _ _ _ c.loop-rest.invariant.written,
     )
 
 pub returns-clause-over : goal.returns-clause-over
 returns-clause-over g c =
     let none = nil-from_length _ (sym c.loop-rest-test.false ∙ c.is_empty.ensures) in
-    sym (c.loop-rest.invariant.over ∙ never-over c.loop-rest.session c.args.talker c.loop-rest.recall _ none)
+    sym (c.loop-rest.invariant.over ∙ never-over c.loop-rest.moment.session c.args.talker c.loop-rest.moment.recall _ none)
 
 pub returns-clause-session : goal.returns-clause-session
 returns-clause-session g c =
     let none = nil-from_length _ (sym c.loop-rest-test.false ∙ c.is_empty.ensures) in
-    sym (c.loop-rest.invariant.session ∙ all-done c.loop-rest.session c.args.talker c.loop-rest.recall _ none)
+    sym (c.loop-rest.invariant.session ∙ all-done c.loop-rest.moment.session c.args.talker c.loop-rest.moment.recall _ none)
 
 pub returns-clause-recall : goal.returns-clause-recall
 returns-clause-recall g c =
     let none = nil-from_length _ (sym c.loop-rest-test.false ∙ c.is_empty.ensures) in
-    sym (c.loop-rest.invariant.recall ∙ all-recalled c.loop-rest.session c.args.talker c.loop-rest.recall _ none)
+    sym (c.loop-rest.invariant.recall ∙ all-recalled c.loop-rest.moment.session c.args.talker c.loop-rest.moment.recall _ none)
 
 pub returns-clause-begun : goal.returns-clause-begun
 returns-clause-begun g c =
     let none = nil-from_length _ (sym c.loop-rest-test.false ∙ c.is_empty.ensures) in
-    AppendsFront-all _ _ _ (all-answered c.loop-rest.session c.args.talker c.loop-rest.recall _ none _ _ _ c.loop-rest.invariant.written)
+    AppendsFront-all _ _ _ (all-answered c.loop-rest.moment.session c.args.talker c.loop-rest.moment.recall _ none _ _ _ c.loop-rest.invariant.written)
 
 pub returns-in-None-clause-saved : goal.returns-in-None-clause-saved
 returns-in-None-clause-saved g c =
     let answer = c.in_ok-answer_line.ensures in
     let quit = answer.quit.0 cc in
-    saved-end c.loop-rest.session c.args.talker c.loop-rest.recall _ _ _ c.split_line.ensures.lines c.args.origin.now _ _ _ quit c.loop-rest.invariant.saved answer.saved
+    saved-end c.loop-rest.moment.session c.args.talker c.loop-rest.moment.recall _ _ _ c.split_line.ensures.lines c.args.moment.now.origin _ _ _ quit c.loop-rest.invariant.saved (rw c.loop-rest.invariant.origin at answer.saved)
 
 pub returns-clause-saved : goal.returns-clause-saved
 returns-clause-saved g c =
     let none = nil-from_length _ (sym c.loop-rest-test.false ∙ c.is_empty.ensures) in
-    all-saved c.loop-rest.session c.args.talker c.loop-rest.recall _ none c.args.origin.now _ _ c.loop-rest.invariant.saved
+    all-saved c.loop-rest.moment.session c.args.talker c.loop-rest.moment.recall _ none c.args.moment.now.origin _ _ c.loop-rest.invariant.saved

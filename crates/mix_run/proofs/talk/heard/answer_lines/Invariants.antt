@@ -11,18 +11,19 @@ use Rattle.mix_run.proofs.talk.heard.answer_lines.Given as goal
 -- what was written so far, and the replies to the lines that are left, are the replies to all
 abbrev pub invariant-loop-rest : goal.invariant-loop-rest
 invariant-loop-rest g l =
-    let whole = answers l.fn.session l.talker l.fn.recall (lines l.text) in
-    let left = answers l.session l.talker l.recall (lines l.rest) in
+    let whole = answers l.fn.moment.session l.talker l.fn.moment.recall (lines l.text) in
+    let left = answers l.moment.session l.talker l.moment.recall (lines l.rest) in
     record {
       written : (done : List ℕ) × Appends (g.W.Out.told l.fn.out) (g.W.Out.told l.out) done × (whole.bytes ≡ done ++ left.bytes);
       told : told_of_both l.told left.told ≡ whole.told;
       over : is_over l.talker (lines l.text) ≡ is_over l.talker (lines l.rest);
-      session : after_lines l.fn.session (asked l.fn.session l.talker l.fn.recall (lines l.text)) ≡ after_lines l.session (asked l.session l.talker l.recall (lines l.rest));
-      recall : recalled_all l.fn.session l.talker l.fn.recall (lines l.text) ≡ recalled_all l.session l.talker l.recall (lines l.rest);
+      session : after_lines l.fn.moment.session (asked l.fn.moment.session l.talker l.fn.moment.recall (lines l.text)) ≡ after_lines l.moment.session (asked l.moment.session l.talker l.moment.recall (lines l.rest));
+      recall : recalled_all l.fn.moment.session l.talker l.fn.moment.recall (lines l.text) ≡ recalled_all l.moment.session l.talker l.moment.recall (lines l.rest);
+      origin : l.moment.origin ≡ l.fn.moment.origin;
       failed : g.W.Out.failed l.out ≡ g.W.Out.failed l.fn.out;
       quiet : l.talker ≡ Program → l.errors ≡ l.fn.errors;
-      saved : noted (g.O.Opener.saved l.files) (saves l.origin l.session l.talker l.recall (lines l.rest))
-          ≡ noted (g.O.Opener.saved l.fn.files) (saves l.origin l.fn.session l.talker l.fn.recall (lines l.text));
+      saved : noted (g.O.Opener.saved l.files) (saves l.fn.moment.origin l.moment.session l.talker l.moment.recall (lines l.rest))
+          ≡ noted (g.O.Opener.saved l.fn.files) (saves l.fn.moment.origin l.fn.moment.session l.talker l.fn.moment.recall (lines l.text));
       unasked : g.O.Opener.asked l.files ≡ g.O.Opener.asked l.fn.files;
       held : g.O.Opener.holds l.files ≡ g.O.Opener.holds l.fn.files;
       untouched : l.talker ≡ Program → l.files ≡ l.fn.files;

@@ -2,7 +2,6 @@ use Rattle.std.proofs.Common.{◌≡◌, ◌++◌, List, ℕ, length, false}
 use Rattle.mix_lines.specs.Lines.{lines}
 use Rattle.mix_run.specs.Hearing.{Answered}
 use Rattle.mix_run.specs.Opening.{Files}
-use Rattle.mix_run.specs.Reload.{moment_of}
 use Rattle.mix_run.specs.Sources.{Knows}
 use Rattle.mix_run.specs.Stretch.{talk_of}
 use Rattle.mix_run.specs.declared.talk.aside.Talker.TheVariants.{Program}
@@ -13,7 +12,7 @@ abbrev pub invariant-loop-rest : goal.invariant-loop-rest
 invariant-loop-rest g l = record {
   answered : (front : List (List ℕ)) × (lines l.text ≡ front ++ lines l.rest)
       × ((all : Files) → Knows (g.O.Opener.holds l.fn.files) all l.talker front
-      → Answered (talk_of all (moment_of l.fn.session l.fn.recall l.fn.origin) l.talker front) (moment_of l.session l.recall l.origin) l.told false
+      → Answered (talk_of all l.fn.moment l.talker front) l.moment l.told false
       (g.O.Opener.saved l.fn.files) (g.O.Opener.saved l.files) (g.W.Out.told l.fn.out) (g.W.Out.told l.out));
   failed : g.W.Out.failed l.out ≡ g.W.Out.failed l.fn.out;
   quiet : l.talker ≡ Program → l.errors ≡ l.fn.errors;

@@ -1,7 +1,6 @@
 -- A typed line was answered: the source was reloaded, or the lines that it stands for were answered, those of a file or itself.
 use Rattle.std.proofs.Common.{◌∙◌, ap, sym}
 use Rattle.mix_lines.specs.Lines.{lines}
-use Rattle.mix_run.specs.Reload.{moment_of}
 use Rattle.mix_run.proofs.HearingLemmas.{Answered-reload, answered-as, answered-lines, begun-as, reloaded-known, sourced-known, stands-itself}
 use Rattle.mix_run.proofs.talk.heard.answer_typed.Goals as goal
 
@@ -17,29 +16,25 @@ returns-in-Some-clause-answered g c all known =
     let sources = sym (rw c.in-Some.is at c.in_ok-text.ensures.sources) in
     let stands = rw c.in-Some.is at (c.in_ok-text.ensures.stands all (sourced-known _ all c.args.talker c.args.line.now sources known)) in
     let said = c.answer_lines.ensures in
-    let here = moment_of c.args.session.now c.args.recall.now c.args.origin.now in
-    answered-as _ _ _ _ _ all here _ c.args.talker c.args.line.now _ c.answer_lines.result stays c.in_ok-text.ensures.unsaved (ap lines c.deref.ensures.value ∙ stands)
-    (answered-lines _ _ _ _ _ _ _ _ _ _ _ c.answer_lines.result said.replies said.over said.session said.recall said.saved)
+    answered-as _ _ _ _ _ all c.args.moment.now _ c.args.talker c.args.line.now _ c.answer_lines.result stays c.in_ok-text.ensures.unsaved (ap lines c.deref.ensures.value ∙ stands)
+    (answered-lines _ _ _ _ c.args.moment.now _ _ _ c.answer_lines.result said.replies said.over said.session said.recall said.origin said.saved)
 
 pub returns-in-Some-clause-begun : goal.returns-in-Some-clause-begun
 returns-in-Some-clause-begun g c all known =
     let stays = sym c.is_reload.ensures ∙ c.if-is_reload.false in
     let sources = sym (rw c.in-Some.is at c.in_ok-text.ensures.sources) in
     let stands = rw c.in-Some.is at (c.in_ok-text.ensures.stands all (sourced-known _ all c.args.talker c.args.line.now sources known)) in
-    let here = moment_of c.args.session.now c.args.recall.now c.args.origin.now in
-    begun-as all here c.args.talker c.args.line.now _ _ _ stays (ap lines c.deref.ensures.value ∙ stands) c.answer_lines.ensures.begun
+    begun-as all c.args.moment.now c.args.talker c.args.line.now _ _ _ stays (ap lines c.deref.ensures.value ∙ stands) c.answer_lines.ensures.begun
 
 pub returns-in-None-clause-answered : goal.returns-in-None-clause-answered
 returns-in-None-clause-answered g c all known =
     let stays = sym c.is_reload.ensures ∙ c.if-is_reload.false in
     let sources = sym (rw c.in-None.is at c.in_ok-text.ensures.sources) in
-    let here = moment_of c.args.session.now c.args.recall.now c.args.origin.now in
-    answered-as _ _ _ _ _ all here _ c.args.talker c.args.line.now _ c.answer_itself.result stays c.in_ok-text.ensures.unsaved
+    answered-as _ _ _ _ _ all c.args.moment.now _ c.args.talker c.args.line.now _ c.answer_itself.result stays c.in_ok-text.ensures.unsaved
     (sym (stands-itself all c.args.talker c.args.line.now sources)) c.answer_itself.ensures.answered
 
 pub returns-in-None-clause-begun : goal.returns-in-None-clause-begun
 returns-in-None-clause-begun g c all known =
     let stays = sym c.is_reload.ensures ∙ c.if-is_reload.false in
     let sources = sym (rw c.in-None.is at c.in_ok-text.ensures.sources) in
-    let here = moment_of c.args.session.now c.args.recall.now c.args.origin.now in
-    begun-as all here c.args.talker c.args.line.now _ _ _ stays (sym (stands-itself all c.args.talker c.args.line.now sources)) c.answer_itself.ensures.begun
+    begun-as all c.args.moment.now c.args.talker c.args.line.now _ _ _ stays (sym (stands-itself all c.args.talker c.args.line.now sources)) c.answer_itself.ensures.begun

@@ -1,6 +1,5 @@
 -- What is said of the parts that were read holds of the whole text.
 use Rattle.std.proofs.Common.{◌∙◌, ◌<◌, [], ◌++◌, length, take, ap, refl, sym, arith, rules}
-use Rattle.mix_run.specs.Reload.{moment_of}
 use Rattle.mix_run.specs.Talk.{is_whole}
 use Rattle.std.proofs.lemmas.List.{length-append}
 use Rattle.std.proofs.KnownBytes.{Consumes-nil, Consumes-trans}
@@ -11,7 +10,7 @@ use Rattle.mix_run.proofs.talk.input.talk.Goals as goal
 
 pub loop-reads-init : goal.loop-reads-init
 loop-reads-init g c = record {
-  heard = ([], Consumes-nil _, omega arith, Hears-nothing _ _ c.args.talker _ _ _ (ap (λ r. moment_of c.args.session.now r c.args.origin.now) c.requires.recall) c.new-pending.ensures.items refl);
+  heard = ([], Consumes-nil _, omega arith, Hears-nothing _ _ c.args.streams.now.talker _ _ _ refl c.new-pending.ensures.items refl);
   read = refl;
   written = refl;
   quiet = c.prompt.ensures;
@@ -26,8 +25,8 @@ returns-in-Ok-answer_text-clause-talks g c all t e knows =
     let none = c.if-count-eq0.true in
     let some : 0 < length c.read.new.buf = search rules in
     let whole = all-read _ _ _ t _ _ e so_far.1 c.in-Ok.ensures.bytes.0 (ap (λ n. take n c.read.new.buf) none) (c.in-Ok.ensures.bytes.1 none some) in
-    let done = end-answered _ _ c.args.talker so_far.0 c.loop-reads.pending.items c.loop-reads.told _ _ so_far.3 c.loop-reads.invariant.held all t knows c.deref.result.now whole c.deref.ensures.value _ _ _ _
-    (c.in-Ok-answer_text.ensures.answered all (end-known _ _ c.args.talker so_far.0 c.loop-reads.pending.items c.loop-reads.told _ _ so_far.3 c.loop-reads.invariant.held all t knows c.deref.result.now whole c.deref.ensures.value)) in
+    let done = end-answered _ _ c.args.streams.now.talker so_far.0 c.loop-reads.pending.items c.loop-reads.told _ _ so_far.3 c.loop-reads.invariant.held all t knows c.deref.result.now whole c.deref.ensures.value _ _ _ _
+    (c.in-Ok-answer_text.ensures.answered all (end-known _ _ c.args.streams.now.talker so_far.0 c.loop-reads.pending.items c.loop-reads.told _ _ so_far.3 c.loop-reads.invariant.held all t knows c.deref.result.now whole c.deref.ensures.value)) in
     (c.and.ensures ∙ done.told, done.written)
 
 pub returns-in-Ok-answer_text-clause-saved : goal.returns-in-Ok-answer_text-clause-saved
@@ -36,8 +35,8 @@ returns-in-Ok-answer_text-clause-saved g c all t e knows =
     let none = c.if-count-eq0.true in
     let some : 0 < length c.read.new.buf = search rules in
     let whole = all-read _ _ _ t _ _ e so_far.1 c.in-Ok.ensures.bytes.0 (ap (λ n. take n c.read.new.buf) none) (c.in-Ok.ensures.bytes.1 none some) in
-    let done = end-answered _ _ c.args.talker so_far.0 c.loop-reads.pending.items c.loop-reads.told _ _ so_far.3 c.loop-reads.invariant.held all t knows c.deref.result.now whole c.deref.ensures.value _ _ _ (g.W.Out.told c.answer_text.new.out)
-    (c.in-Ok-answer_text.ensures.answered all (end-known _ _ c.args.talker so_far.0 c.loop-reads.pending.items c.loop-reads.told _ _ so_far.3 c.loop-reads.invariant.held all t knows c.deref.result.now whole c.deref.ensures.value)) in
+    let done = end-answered _ _ c.args.streams.now.talker so_far.0 c.loop-reads.pending.items c.loop-reads.told _ _ so_far.3 c.loop-reads.invariant.held all t knows c.deref.result.now whole c.deref.ensures.value _ _ _ (g.W.Out.told c.answer_text.new.out)
+    (c.in-Ok-answer_text.ensures.answered all (end-known _ _ c.args.streams.now.talker so_far.0 c.loop-reads.pending.items c.loop-reads.told _ _ so_far.3 c.loop-reads.invariant.held all t knows c.deref.result.now whole c.deref.ensures.value)) in
     done.saved
 
 pub returns-in-Err-answer_text-clause-talks : goal.returns-in-Err-answer_text-clause-talks
@@ -46,15 +45,15 @@ returns-in-Err-answer_text-clause-talks g c all t e knows =
     let none = c.if-count-eq0.true in
     let some : 0 < length c.read.new.buf = search rules in
     let whole = all-read _ _ _ t _ _ e so_far.1 c.in-Ok.ensures.bytes.0 (ap (λ n. take n c.read.new.buf) none) (c.in-Ok.ensures.bytes.1 none some) in
-    Talks-begun all _ c.args.talker t c.in-Err-answer_text.fault _ _ _ c.in-Err-answer_text.ensures.only
-    (end-begun _ _ c.args.talker so_far.0 c.loop-reads.pending.items c.loop-reads.told _ _ so_far.3 c.loop-reads.invariant.held all t knows c.deref.result.now whole c.deref.ensures.value _
-    (c.in-Err-answer_text.ensures.begun all (end-known _ _ c.args.talker so_far.0 c.loop-reads.pending.items c.loop-reads.told _ _ so_far.3 c.loop-reads.invariant.held all t knows c.deref.result.now whole c.deref.ensures.value)))
+    Talks-begun all _ c.args.streams.now.talker t c.in-Err-answer_text.fault _ _ _ c.in-Err-answer_text.ensures.only
+    (end-begun _ _ c.args.streams.now.talker so_far.0 c.loop-reads.pending.items c.loop-reads.told _ _ so_far.3 c.loop-reads.invariant.held all t knows c.deref.result.now whole c.deref.ensures.value _
+    (c.in-Err-answer_text.ensures.begun all (end-known _ _ c.args.streams.now.talker so_far.0 c.loop-reads.pending.items c.loop-reads.told _ _ so_far.3 c.loop-reads.invariant.held all t knows c.deref.result.now whole c.deref.ensures.value)))
 
 pub returns-in-Err-take_lines-clause-talks : goal.returns-in-Err-take_lines-clause-talks
 returns-in-Err-take_lines-clause-talks g c all t e knows =
     let so_far = c.loop-reads.invariant.heard in
     let known = left-known _ _ t _ e (Consumes-trans _ _ _ _ _ so_far.1 c.in-Ok.ensures.bytes.0) in
-    more-begun _ _ c.args.talker so_far.0 c.loop-reads.pending.items c.loop-reads.told _ _ so_far.3 c.loop-reads.invariant.held all t knows _ known.0 [] _ known.2 refl refl _ (0, omega arith, Appends-nothing _)
+    more-begun _ _ c.args.streams.now.talker so_far.0 c.loop-reads.pending.items c.loop-reads.told _ _ so_far.3 c.loop-reads.invariant.held all t knows _ known.0 [] _ known.2 refl refl _ (0, omega arith, Appends-nothing _)
 
 pub returns-in-Err-answer_text-clause-write : goal.returns-in-Err-answer_text-clause-write
 returns-in-Err-answer_text-clause-write g c =
@@ -72,9 +71,9 @@ returns-in-Err-answer_text-2-clause-talks g c all t e knows =
     let known = left-known _ _ t _ e (Consumes-trans _ _ _ _ _ so_far.1 c.in-Ok.ensures.bytes.0) in
     let parts = c.in-Ok-take_lines.ensures.parts ∙ ap (λ l. l ++ c.take_lines.new.pending.items) (sym c.deref-in-loop-reads.ensures.value) in
     let whole = ap is_whole c.deref-in-loop-reads.ensures.value ∙ c.in-Ok-take_lines.ensures.whole in
-    Talks-begun all _ c.args.talker t c.in-Err-answer_text-2.fault _ _ _ c.in-Err-answer_text-2.ensures.only
-    (more-begun _ _ c.args.talker so_far.0 c.loop-reads.pending.items c.loop-reads.told _ _ so_far.3 c.loop-reads.invariant.held all t knows _ known.0 c.deref-in-loop-reads.result.now _ known.2 parts whole _
-    (c.in-Err-answer_text-2.ensures.begun all (more-known _ _ c.args.talker so_far.0 c.loop-reads.pending.items c.loop-reads.told _ _ so_far.3 c.loop-reads.invariant.held all t knows _ known.0 c.deref-in-loop-reads.result.now _ known.2 parts whole)))
+    Talks-begun all _ c.args.streams.now.talker t c.in-Err-answer_text-2.fault _ _ _ c.in-Err-answer_text-2.ensures.only
+    (more-begun _ _ c.args.streams.now.talker so_far.0 c.loop-reads.pending.items c.loop-reads.told _ _ so_far.3 c.loop-reads.invariant.held all t knows _ known.0 c.deref-in-loop-reads.result.now _ known.2 parts whole _
+    (c.in-Err-answer_text-2.ensures.begun all (more-known _ _ c.args.streams.now.talker so_far.0 c.loop-reads.pending.items c.loop-reads.told _ _ so_far.3 c.loop-reads.invariant.held all t knows _ known.0 c.deref-in-loop-reads.result.now _ known.2 parts whole)))
 
 pub returns-then-heard-clause-talks : goal.returns-then-heard-clause-talks
 returns-then-heard-clause-talks g c all t e knows =
@@ -142,14 +141,14 @@ pub returns-in-Err-clause-talks : goal.returns-in-Err-clause-talks
 returns-in-Err-clause-talks g c all t e knows =
     let so_far = c.loop-reads.invariant.heard in
     let known = left-known _ _ t _ e so_far.1 in
-    unread _ _ c.args.talker so_far.0 c.loop-reads.pending.items c.loop-reads.told _ _ _ so_far.3 all t
+    unread _ _ c.args.streams.now.talker so_far.0 c.loop-reads.pending.items c.loop-reads.told _ _ _ so_far.3 all t
     known.0 known.2 knows _ (kept-known _ _ known.0 known.1 c.in-Err.ensures.bytes)
 
 pub returns-clause-talks : goal.returns-clause-talks
 returns-clause-talks g c all t e knows =
     let so_far = c.loop-reads.invariant.heard in
     let known = left-known _ _ t _ e so_far.1 in
-    unread _ _ c.args.talker so_far.0 c.loop-reads.pending.items c.loop-reads.told _ _ _ so_far.3 all t
+    unread _ _ c.args.streams.now.talker so_far.0 c.loop-reads.pending.items c.loop-reads.told _ _ _ so_far.3 all t
     known.0 known.2 knows _ known.1
 
 -- each read gave a byte

@@ -66,7 +66,7 @@ returns-clause-talks g c all s d t hs hd ht known =
     TalksWith-given all c.args.name.now (parts_of s).source (deck_given c.args.given (parts_of s).deck d) _ _ c.in-Ok.program _ c.args.streams.now.talker t _ _ _ _
     (parts-whole s _ _ _ read c.parts_of-parts.ensures.source c.in-Ok.ensures.ok)
     (c.in-Ok-given_deck.ensures.text d hd ∙ used) c.in-Ok.ensures.ok
-    (sym (ap deck_of used) ∙ c.in-Ok-given_deck.ensures.units d hd) (c.talk_with.ensures.talks all t ht known)
+    (sym (ap deck_of used) ∙ c.in-Ok-given_deck.ensures.units d hd) (rw c.in-Ok-begin.ensures at c.talk_with.ensures.talks all t ht known)
 
 pub returns-clause-read : goal.returns-clause-read
 returns-clause-read g c =
@@ -104,4 +104,4 @@ returns-clause-saved g c all s d t p u hs hd ht known made units =
     saved-as _ all c.args.name.now (parts_of s).source (deck_given c.args.given (parts_of s).deck d) _ _ p c.in-Ok.program u _ c.args.streams.now.talker (lines t) _ _
     (parts-whole s _ _ _ read c.parts_of-parts.ensures.source c.in-Ok.ensures.ok)
     (c.in-Ok-given_deck.ensures.text d hd ∙ used) c.in-Ok.ensures.ok
-    (sym (ap deck_of used) ∙ c.in-Ok-given_deck.ensures.units d hd) made units (c.talk_with.ensures.saved all t ht known)
+    (sym (ap deck_of used) ∙ c.in-Ok-given_deck.ensures.units d hd) made units (rw c.in-Ok-begin.ensures at c.talk_with.ensures.saved all t ht known)
