@@ -15,7 +15,7 @@ use Rattle.mix_check.specs.Help.{help_of}
 use Rattle.mix_check.specs.Json.{json_diagnostic, json_report}
 use Rattle.mix_check.specs.Report.{diagnostic_text, diagnostics_text, has_faults, report}
 use Rattle.mix_run.specs.Check.{report_of}
-use Rattle.mix_run.proofs.Truncation.{limited-take}
+use Rattle.mix_run.specs.law.Truncation.{limited-take}
 
 -- the one fault of a source that is too long: it is about no part of a line, and what helps to mend it names no line of the source
 abbrev too_long : AsmFault

@@ -11,13 +11,18 @@ use Rattle.mix_run.specs.Output.{Meets, outcome_of, output, refusal_of}
 use Rattle.mix_run.specs.PrintOutput.{parts_of}
 use Rattle.mix_run.specs.UnitsRead.{deck_given}
 use Rattle.mix_run.specs.declared.fault.ToolFault.{ToolFault}
-use Rattle.mix_run.proofs.PrintOutputLemmas.{parts-read}
-use Rattle.mix_run.proofs.Truncation.{assembly-whole}
+use Rattle.mix_run.specs.law.Truncation.{assembly-whole, parts-read}
 
 -- what was assembled is what the source of the text gives
 pub parts-made : (text read source : List ℕ) (made : Result ProgramValue AsmFault) → read ≡ take 41943041 text → source ≡ (parts_of read).source
     → assembly source ≡ made → assembly (parts_of text).source ≡ made
 parts-made text read source made e s f = sym (parts-read text read e).0 ∙ sym (ap assembly s) ∙ f
+
+-- one that is assembled is not refused
+pub parts-taken : (text read source : List ℕ) (program : ProgramValue) (fault : AsmFault) → read ≡ take 41943041 text → source ≡ (parts_of read).source
+    → assembly source ≡ Ok program → assembly (parts_of text).source ≡ Err fault → ⊥
+parts-taken text read source program fault e s taken refused =
+    let same : assembly source ≡ assembly (parts_of text).source = ap assembly s ∙ (parts-read text read e).0 in cc
 
 parts-whole-as : (text read source : List ℕ) (program : ProgramValue) → read ≡ take 41943041 text → source ≡ (parts_of read).source
     → assembly source ≡ Ok program → (v : Bool) → ltb 41943040 (length text) ≡ v → source ≡ (parts_of text).source

@@ -1,14 +1,11 @@
 -- A map is that of the steps of a session, and what is printed beside it is that of the machine which the session begins with.
-use Rattle.std.proofs.Common.{◌≡◌, ◌∙◌, ◌++◌, ◌||◌, ℕ, Bool, true, false, List, [], Option, None, Some, Result, Ok, Err, IfOk, ap, arith, is_some, refl, subst, sym, length, take}
+use Rattle.std.proofs.Common.{◌≡◌, ◌∙◌, ◌++◌, ◌||◌, ℕ, Bool, true, false, List, [], Option, None, Some, Result, Ok, Err, ap, is_some, refl, subst, sym, length}
 use Rattle.std.specs.Io.KnownBytes.{Appends}
-use Rattle.mixal_asm.specs.Assembly.{assembly}
 use Rattle.mixal_asm.specs.Program.{ProgramValue}
-use Rattle.mixal_asm.specs.declared.fault.AsmFault.{AsmFault}
 use Rattle.mix_machine.specs.Loaded.{loaded}
 use Rattle.mix_machine.specs.World.{WorldState}
 use Rattle.mix_machine.specs.declared.part.Part.{Part}
 use Rattle.mix_machine.specs.units.Units.{UnitsState}
-use Rattle.mix_machine.specs.declared.units.deck_fault.DeckFault.{DeckFault}
 use Rattle.mix_session.specs.Change.{world_at}
 use Rattle.mix_session.specs.Command.{after}
 use Rattle.mix_session.specs.Path.{IsPath}
@@ -17,17 +14,14 @@ use Rattle.mix_session.specs.Timeline.{Timeline}
 use Rattle.mix_session.specs.declared.fault.Refusal.{Refusal}
 use Rattle.mix_session.specs.declared.path.Span.{Span}
 use Rattle.mix_run.specs.Counted.{counted_steps}
-use Rattle.mix_run.specs.Drawn.{DrawnIf, DrawnProgram, DrawnRun, Draws}
+use Rattle.mix_run.specs.Drawn.{DrawnIf, DrawnRun}
 use Rattle.mix_run.specs.Keep.{kept_if}
 use Rattle.mix_run.specs.Map.{IsMap, map_text, span_of}
 use Rattle.mix_run.specs.Print.{Run, counted, run_of}
-use Rattle.mix_run.specs.PrintOutput.{Leaves, PrintOutcome, Prints, answered, came_to, counted_outcome, counts_asked, counts_in, outcome_of_run, parts_of, printed_outcome, units_asked}
+use Rattle.mix_run.specs.PrintOutput.{Leaves, answered, came_to, counted_outcome, counts_asked, counts_in, outcome_of_run, printed_outcome}
 use Rattle.mix_run.specs.StepTable.{part_named, run_told, step_table, table_of}
 use Rattle.mix_run.specs.Writes.{Broken}
-use Rattle.mix_stream.specs.Stream.{CountsFailure}
-use Rattle.mix_run.specs.UnitsRead.{deck_given}
 use Rattle.mix_run.specs.declared.fault.ToolFault.{ToolFault}
-use Rattle.mix_run.specs.declared.fault.ToolFault.TheVariants as faults
 use Rattle.mix_run.specs.declared.print.PrintAnswer.TheVariants.{NoPart, Ran}
 use Rattle.mix_run.specs.declared.print.Printed.{Printed}
 use Rattle.mix_run.specs.declared.print.options.AskedTable.{AskedTable}
@@ -37,7 +31,6 @@ use Rattle.mix_run.specs.declared.print.options.TableOf.TheVariants as ofs
 use Rattle.mix_run.specs.declared.print.steps.Stepped.{Stepped}
 use Rattle.mix_run.specs.declared.print.tabled.StepTable.{StepTable}
 use Rattle.mix_run.specs.declared.table.TableFormat.{TableFormat}
-use Rattle.mix_run.proofs.PrintOutputLemmas.{parts-read}
 use Rattle.mix_run.proofs.Written.{Appends-nothing}
 
 -- the map of a path
@@ -166,60 +159,3 @@ pub leaves-told : (options : PrintOptions) (part : List ℕ) (program : ProgramV
     → Leaves (outcome_of_run options part program units) (DrawnRun options part program units) done a n b m
 unfolding outcome_of_run
 leaves-told options part program units done a b n m counts leaves = rw counts leaves
-
--- what is left of a run is what it prints, and its map
-pub leaves-prints : (outcome : PrintOutcome) (IsDrawn : List ℕ → Type 0) (done : Result Printed ToolFault) (a b : Option (List ℕ)) (n m : ℕ)
-    → Leaves outcome IsDrawn done a n b m → Prints outcome done a b
-leaves-prints outcome IsDrawn (Ok printed) a b n m leaves = (leaves.0.0, leaves.1)
-leaves-prints outcome IsDrawn (Err faults.Memory) a b n m broken = broken.0
-leaves-prints outcome IsDrawn (Err faults.Write) a b n m broken = broken.0
-leaves-prints outcome IsDrawn (Err faults.Read) a b n m broken = absurd broken
-leaves-prints outcome IsDrawn (Err (faults.Deck fault)) a b n m broken = absurd broken
-leaves-prints outcome IsDrawn (Err faults.Long) a b n m broken = absurd broken
-
-pub leaves-map : (outcome : PrintOutcome) (IsDrawn : List ℕ → Type 0) (done : Result Printed ToolFault) (a b : Option (List ℕ)) (n m : ℕ)
-    → Leaves outcome IsDrawn done a n b m → IfOk done (λ p. IsDrawn p.map.items)
-leaves-map outcome IsDrawn (Ok printed) a b n m leaves = leaves.0.1
-leaves-map outcome IsDrawn (Err fault) a b n m broken = tt
-
--- one more write has failed exactly where that is answered, and nothing is read
-pub leaves-written : (outcome : PrintOutcome) (IsDrawn : List ℕ → Type 0) (done : Result Printed ToolFault) (a b : Option (List ℕ)) (n m : ℕ)
-    → Leaves outcome IsDrawn done a n b m → CountsFailure (done ≡ Err faults.Write) n m
-leaves-written outcome IsDrawn (Ok printed) a b n m leaves = let same = leaves.2 in (((λ e. absurd cc), (λ more. absurd (omega (arith, same, more)))), (λ other. same))
-leaves-written outcome IsDrawn (Err faults.Memory) a b n m broken = let same = broken.1 in (((λ e. absurd cc), (λ more. absurd (omega (arith, same, more)))), (λ other. same))
-leaves-written outcome IsDrawn (Err faults.Write) a b n m broken = (((λ e. broken.1), (λ more. refl)), (λ other. absurd (other refl)))
-leaves-written outcome IsDrawn (Err faults.Read) a b n m broken = absurd broken
-leaves-written outcome IsDrawn (Err (faults.Deck fault)) a b n m broken = absurd broken
-leaves-written outcome IsDrawn (Err faults.Long) a b n m broken = absurd broken
-
-pub leaves-read : (outcome : PrintOutcome) (IsDrawn : List ℕ → Type 0) (done : Result Printed ToolFault) (a b : Option (List ℕ)) (n m : ℕ)
-    → Leaves outcome IsDrawn done a n b m → done ≡ Err faults.Read → ⊥
-leaves-read outcome IsDrawn (Ok printed) a b n m leaves e = cc
-leaves-read outcome IsDrawn (Err faults.Memory) a b n m broken e = cc
-leaves-read outcome IsDrawn (Err faults.Write) a b n m broken e = cc
-leaves-read outcome IsDrawn (Err faults.Read) a b n m broken e = broken
-leaves-read outcome IsDrawn (Err (faults.Deck fault)) a b n m broken e = cc
-leaves-read outcome IsDrawn (Err faults.Long) a b n m broken e = cc
-
--- units, and the parts of a text
-pub drawn-units : (options : PrintOptions) (part : List ℕ) (program : ProgramValue) (given : Result UnitsState DeckFault) (units : UnitsState) (done : Result Printed ToolFault)
-    → given ≡ Ok units → IfOk done (λ p. DrawnRun options part program units p.map.items) → IfOk done (λ p. DrawnProgram options part (Ok program) given p.map.items)
-unfolding DrawnProgram
-drawn-units options part program given units done made drawn = rw made drawn
-
-pub drawn-refused : (options : PrintOptions) (part : List ℕ) (text read source deck cards typewriter : List ℕ) (fault : AsmFault) (map : List ℕ) →
-    read ≡ take 41943041 text → source ≡ (parts_of read).source → assembly source ≡ Err fault → map ≡ [] → Draws options part text deck cards typewriter map
-unfolding Draws DrawnProgram
-drawn-refused options part text read source deck cards typewriter fault map e s f none =
-    let here : assembly (parts_of text).source ≡ Err fault = sym (parts-read text read e).0 ∙ sym (ap assembly s) ∙ f in
-    rw here none
-
-pub drawn-parts : (options : PrintOptions) (part : List ℕ) (text read source own deck cards typewriter : List ℕ) (program : ProgramValue) (done : Result Printed ToolFault)
-    → read ≡ take 41943041 text → source ≡ (parts_of read).source → own ≡ (parts_of read).deck → assembly source ≡ Ok program →
-    IfOk done (λ p. DrawnProgram options part (Ok program) (units_asked options (deck_given options.deck own deck) cards typewriter) p.map.items)
-    → IfOk done (λ p. Draws options part text deck cards typewriter p.map.items)
-unfolding Draws
-drawn-parts options part text read source own deck cards typewriter program done e s o made drawn =
-    let here : assembly (parts_of text).source ≡ Ok program = sym (parts-read text read e).0 ∙ sym (ap assembly s) ∙ made in
-    let deck-here : own ≡ (parts_of text).deck = o ∙ (parts-read text read e).1 in
-    rw here (rw deck-here at drawn)

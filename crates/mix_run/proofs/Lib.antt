@@ -1,4 +1,3 @@
-mod AnswerLemmas
 mod CheckLemmas
 mod CountedLemmas
 mod DebugLemmas
@@ -8,7 +7,6 @@ mod KeepLemmas
 mod MapLemmas
 mod PlainLemmas
 mod PrintLemmas
-mod PrintOutputLemmas
 mod PrintRunLemmas
 mod ReloadLemmas
 mod RunLemmas
@@ -17,6 +15,5 @@ mod StretchLemmas
 mod TabledLemmas
 mod TalkLemmas
 mod TalkMeets
-mod Truncation
 mod WritesLemmas
 mod Written

@@ -1,5 +1,5 @@
 -- A script goes on by one line: what was written so far and the replies to the lines that are left stay the replies to all.
-use Rattle.std.proofs.Common.{◌≡◌, ℕ, Bool, List, [], ◌∷◌, ◌++◌, true, false, Option, None, Some, Result, Ok, Err, IfOk, IfErr, ◌-◌, ◌<◌, ◌≤◌, refl, sym, ap, ◌∙◌, append_assoc, length, eqb, take, arith}
+use Rattle.std.proofs.Common.{◌≡◌, ℕ, Bool, List, [], ◌∷◌, ◌++◌, true, false, Option, None, Some, Result, Ok, Err, ◌-◌, ◌<◌, ◌≤◌, refl, sym, ap, ◌∙◌, append_assoc, length, eqb, take, arith}
 use Rattle.std.proofs.lemmas.Bool.{eqb-true, lt-ltb, le-ltb}
 use Rattle.std.proofs.lemmas.List.{append-nil}
 use Rattle.std.specs.Io.KnownBytes.{Appends, Keeps}
@@ -7,7 +7,7 @@ use Rattle.mix_session.specs.Session.{SessionState, opened, effect_in}
 use Rattle.mix_session.specs.Command.{after}
 use Rattle.mix_session.specs.Answer.{told_of}
 use Rattle.mix_lines.specs.Lines.{lines, lines-nil}
-use Rattle.mix_run.specs.Output.{IsDeckRefusal, Outcome, Meets, outcome_of, replies_of, said_of, outcome_of_script, bundle_output, output, list_output, list_outcome, status_of, TooLong, Ended}
+use Rattle.mix_run.specs.Output.{Outcome, Meets, outcome_of, replies_of, said_of, outcome_of_script, bundle_output, output, list_output, list_outcome, status_of, TooLong, Ended}
 use Rattle.mix_stream.specs.Stream.{AppendsFront, ConsumesAtMost}
 use Rattle.mix_files.specs.Bundle.{cut_of}
 use Rattle.mix_run.specs.UnitsRead.{GivesUnits}
@@ -15,7 +15,7 @@ use Rattle.mixal_asm.specs.Assembly.{assembly}
 use Rattle.mixal_asm.specs.Program.{ProgramValue}
 use Rattle.mixal_asm.specs.declared.fault.AsmFault.{AsmFault}
 use Rattle.mix_machine.specs.units.Units.{UnitsState}
-use Rattle.mix_machine.specs.units.deck.Deck.{deck_of, text_of_unit}
+use Rattle.mix_machine.specs.units.deck.Deck.{deck_of}
 use Rattle.mix_run.specs.Fault.{fault_of_read}
 use Rattle.mix_machine.specs.declared.units.deck_fault.DeckFault.{DeckFault}
 use Rattle.mix_run.specs.declared.fault.ToolFault.{ToolFault}
@@ -23,7 +23,7 @@ use Rattle.mix_run.specs.declared.fault.ToolFault.TheVariants as faults
 use Rattle.mix_refused.specs.declared.refused.Refused.{Refused as Refusal}
 use Rattle.mix_stream.specs.declared.counted.Failed.{Failed}
 use Rattle.mix_refused.specs.declared.refused.Refused.TheVariants as reads
-use Rattle.mix_run.proofs.Truncation.{limited-take, deck_of-take, text_of-take, assembly-take}
+use Rattle.mix_run.specs.law.Truncation.{limited-take, deck_of-take, assembly-take}
 use Rattle.mix_session.specs.Reply.{told_of_both}
 use Rattle.mix_session.specs.declared.reply.Told.{Told}
 use Rattle.mix_session.specs.declared.reply.Told.TheVariants.{Accepted, Refused}
@@ -120,28 +120,10 @@ Meets-unread outcome (reads.Fault _) told = Keeps-same told
 pub deck_of-read : (deck read : List ℕ) → read ≡ take 33554433 deck → deck_of read ≡ deck_of deck
 deck_of-read deck read e = ap deck_of e ∙ deck_of-take deck
 
-pub if-ok : {A B : Type 0} (read : Result A B) (P : Type 0) → P → IfOk read (λ _. P)
-if-ok (Ok x) P p = p
-if-ok (Err f) P p = tt
-
--- units, or why there are none
-pub gives-units : (expected : Result UnitsState DeckFault) (read : Result UnitsState ToolFault) → IfOk read (λ units. expected ≡ Ok units) →
-    IfErr read (IsDeckRefusal expected) → GivesUnits expected read
-gives-units expected (Ok units) made refused = made
-gives-units expected (Err faults.Memory) made refused = tt
-gives-units expected (Err faults.Read) made refused = tt
-gives-units expected (Err (faults.Deck fault)) made refused = refused
-gives-units expected (Err faults.Write) made refused = absurd refused
-gives-units expected (Err faults.Long) made refused = absurd refused
-
 -- none were read
 pub gives-unread : (expected : Result UnitsState DeckFault) (fault : Refusal Failed) → GivesUnits expected (Err (fault_of_read fault))
 gives-unread expected reads.Memory = tt
 gives-unread expected (reads.Fault _) = tt
-
--- a text of a unit that was read up to one byte more than it may have
-pub text_of-read : (units : UnitsState) (n : ℕ) (text read : List ℕ) → read ≡ take 33554433 text → text_of_unit units n read ≡ text_of_unit units n text
-text_of-read units n text read e = ap (text_of_unit units n) e ∙ text_of-take units n text
 
 pub Meets-no_units : (echo : Bool) (program : ProgramValue) (units : Result UnitsState DeckFault) (script : List ℕ) (fault : ToolFault) (told : Option (List ℕ)) →
     GivesUnits units (Err fault) → Meets (outcome_of echo (Ok program) units script) (Err fault) told told

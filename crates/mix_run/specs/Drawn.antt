@@ -1,19 +1,14 @@
 -- Which map a run draws, if that is asked for: that of the same steps in a session.
 use Rattle.std.specs.Prelude.{◌≡◌, ℕ, Bool, true, false, List, [], Option, Result, Ok, Err}
-use Rattle.mixal_asm.specs.Assembly.{assembly}
 use Rattle.mixal_asm.specs.Program.{ProgramValue}
-use Rattle.mixal_asm.specs.declared.fault.AsmFault.{AsmFault}
 use Rattle.mix_machine.specs.units.Units.{UnitsState}
-use Rattle.mix_machine.specs.declared.units.deck_fault.DeckFault.{DeckFault}
 use Rattle.mix_session.specs.Command.{after}
 use Rattle.mix_session.specs.Session.{opened}
 use Rattle.mix_session.specs.Timeline.{Timeline}
 use Rattle.mix_session.specs.declared.fault.Refusal.{Refusal}
 use Rattle.mix_run.specs.Counted.{counted_steps}
 use Rattle.mix_run.specs.Map.{IsMap}
-use Rattle.mix_run.specs.PrintOutput.{parts_of, units_asked}
 use Rattle.mix_run.specs.StepTable.{step_table}
-use Rattle.mix_run.specs.UnitsRead.{deck_given}
 use Rattle.mix_run.specs.declared.print.options.PrintOptions.{PrintOptions}
 use Rattle.mix_run.specs.declared.print.tabled.StepTable.{StepTable}
 
@@ -32,15 +27,3 @@ abbrev pub DrawnRun : PrintOptions → List ℕ → ProgramValue → UnitsState 
 DrawnRun options part program units map =
     DrawnIf (is_drawn options.map (step_table options.table part (opened program units))) program
     (after (counted_steps options.steps (opened program units).timeline)) map
-
--- an assembled source, with its units
-unfoldable pub DrawnProgram : PrintOptions → List ℕ → Result ProgramValue AsmFault → Result UnitsState DeckFault → List ℕ → Type 0
-DrawnProgram options part (Err fault) units map = map ≡ []
-DrawnProgram options part (Ok program) (Err fault) map = map ≡ []
-DrawnProgram options part (Ok program) (Ok units) map = DrawnRun options part program units map
-
--- a bundle or a source, a deck that is given in place of its own, cards, and lines for the typewriter
-unfoldable pub Draws : PrintOptions → List ℕ → List ℕ → List ℕ → List ℕ → List ℕ → List ℕ → Type 0
-Draws options part text deck cards typewriter map =
-    let parts = parts_of text in
-    DrawnProgram options part (assembly parts.source) (units_asked options (deck_given options.deck parts.deck deck) cards typewriter) map

@@ -25,3 +25,4 @@ pub mod Table
 pub mod Talk
 pub mod UnitsRead
 pub mod Writes
+pub mod law

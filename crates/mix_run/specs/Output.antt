@@ -1,5 +1,5 @@
 -- What the tool writes and the status with which it ends: a function of the source, the deck and the script.
-use Rattle.std.specs.Prelude.{◌≡◌, ◌≢◌, ◌≤◌, ⊤, ℕ, Bool, true, false, Option, List, [], ◌∷◌, ◌++◌, Result, Ok, Err, length, nat_lt, if◌then◌else◌}
+use Rattle.std.specs.Prelude.{◌≡◌, ◌≢◌, ◌≤◌, ℕ, Bool, true, false, Option, List, [], ◌∷◌, ◌++◌, Result, Ok, Err, length, nat_lt, if◌then◌else◌}
 use Rattle.std.specs.Io.KnownBytes.{Appends, Keeps}
 use Rattle.mixal_asm.specs.Assembly.{assembly}
 use Rattle.mixal_asm.specs.Fault.{asm_fault_line}
@@ -82,14 +82,6 @@ unfoldable pub outcome_of : Bool → Result ProgramValue AsmFault → Result Uni
 outcome_of echo (Err fault) deck script = refusal_of fault
 outcome_of echo (Ok program) (Err fault) script = DeckRefused fault
 outcome_of echo (Ok program) (Ok units) script = outcome_of_script echo (opened program units) script
-
--- why a deck gives no units: out of memory, or its own fault
-abbrev pub IsDeckRefusal : Result UnitsState DeckFault → ToolFault → Type 0
-IsDeckRefusal deck faults.Memory = ⊤
-IsDeckRefusal deck (faults.Deck fault) = deck ≡ Err fault
-IsDeckRefusal deck faults.Read = ⊥
-IsDeckRefusal deck faults.Write = ⊥
-IsDeckRefusal deck faults.Long = ⊥
 
 -- source, deck and script, whose commands are echoed or not
 unfoldable pub output : Bool → List ℕ → List ℕ → List ℕ → Outcome

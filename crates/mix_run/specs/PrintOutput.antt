@@ -1,26 +1,19 @@
--- What `run` writes, answers and keeps: a function of the source or bundle, the deck, the cards, the lines for the typewriter, and what is asked for.
-use Rattle.std.specs.Prelude.{◌≡◌, ℕ, Bool, Option, None, Some, option_and_then, List, [], Result, Ok, Err, if◌then◌else◌}
-use Rattle.std.specs.Io.KnownBytes.{Appends, Keeps}
-use Rattle.mixal_asm.specs.Assembly.{assembly}
+-- What a run of a program writes, answers and keeps: a function of the program, its units, and what is asked for.
+use Rattle.std.specs.Prelude.{◌≡◌, ℕ, Option, None, Some, option_and_then, List, [], Result, Ok, Err}
 use Rattle.mixal_asm.specs.Program.{ProgramValue}
-use Rattle.mixal_asm.specs.declared.fault.AsmFault.{AsmFault}
 use Rattle.mix_machine.specs.Loaded.{loaded}
 use Rattle.mix_machine.specs.World.{WorldState}
 use Rattle.mix_machine.specs.units.Units.{UnitsState}
-use Rattle.mix_machine.specs.units.deck.Deck.{deck_of, text_of_unit}
 use Rattle.mix_machine.specs.declared.units.deck_fault.DeckFault.{DeckFault}
 use Rattle.mix_run.specs.declared.fault.ToolFault.{ToolFault}
-use Rattle.mix_run.specs.declared.fault.ToolFault.TheVariants as faults
-use Rattle.mix_stream.specs.Stream.{AppendsFront}
 unfoldable pub use Rattle.mix_files.specs.Bundle.{parts_of}
 use Rattle.mix_run.specs.Counted.{counted_run}
 use Rattle.mix_run.specs.Keep.{kept_if}
 use Rattle.mix_run.specs.Print.{Run, counted, line_at}
 use Rattle.mix_run.specs.StepTable.{run_told, step_table}
-use Rattle.mix_run.specs.UnitsRead.{deck_given}
 use Rattle.mix_run.specs.Writes.{Writes}
 use Rattle.mix_run.specs.declared.print.PrintAnswer.{PrintAnswer}
-use Rattle.mix_run.specs.declared.print.PrintAnswer.TheVariants.{NoPart, Ran, Refused}
+use Rattle.mix_run.specs.declared.print.PrintAnswer.TheVariants.{NoPart, Ran}
 use Rattle.mix_run.specs.declared.print.Printed.{Printed}
 use Rattle.mix_run.specs.declared.print.loaded.RanTo.{RanTo}
 use Rattle.mix_run.specs.declared.print.options.AskedTable.{AskedTable}
@@ -34,27 +27,10 @@ use Rattle.mix_run.specs.declared.table.TableFormat.{TableFormat}
 use Rattle.mix_session.specs.Session.{opened}
 use Rattle.mix_session.specs.declared.fault.Refusal.{Refusal}
 
--- how `run` ends: with these bytes, this answer and this deck, or, with no byte written, for its deck or a text of a unit
+-- how a run ends: with these bytes, this answer and this deck, or, with no byte written, for its deck or a text of a unit
 pub data PrintOutcome : Type 0 where
   Answered : List ℕ → PrintAnswer → List ℕ → PrintOutcome
   UnitsRefused : DeckFault → PrintOutcome
-
--- the lines of a text, if there is one, for a unit of those that were read before
-abbrev pub with_text : ℕ → Result UnitsState DeckFault → Bool → List ℕ → Result UnitsState DeckFault
-with_text unit (Err fault) given text = Err fault
-with_text unit (Ok units) given text = if given then text_of_unit units unit text else Ok units
-
--- the cards of a text in the units of a deck
-abbrev pub with_cards : Result UnitsState DeckFault → Bool → List ℕ → Result UnitsState DeckFault
-with_cards units given cards = with_text 16 units given cards
-
--- and the lines of another, which the typewriter reads
-abbrev pub with_typewriter : Result UnitsState DeckFault → Bool → List ℕ → Result UnitsState DeckFault
-with_typewriter units given typewriter = with_text 19 units given typewriter
-
--- the units of a deck, with the texts that are asked for
-abbrev pub units_asked : PrintOptions → List ℕ → List ℕ → List ℕ → Result UnitsState DeckFault
-units_asked options deck cards typewriter = with_typewriter (with_cards (deck_of deck) options.cards cards) options.typewriter typewriter
 
 -- where a program came to: how it ended, the machine then, and the conflicts
 abbrev pub came_to : ProgramValue → RunEnd → WorldState → Conflicts → RanTo
@@ -106,22 +82,6 @@ outcome_by (Some format) options part program units = counted_outcome format opt
 unfoldable pub outcome_of_run : PrintOptions → List ℕ → ProgramValue → UnitsState → PrintOutcome
 outcome_of_run options part program units = outcome_by (counts_asked options.table) options part program units
 
--- an assembled source, with its units
-unfoldable pub print_outcome : PrintOptions → List ℕ → Result ProgramValue AsmFault → Result UnitsState DeckFault → PrintOutcome
-print_outcome options part (Err fault) units = Answered [] (Refused fault) []
-print_outcome options part (Ok program) (Err fault) = UnitsRefused fault
-print_outcome options part (Ok program) (Ok units) = outcome_of_run options part program units
-
--- what was read of a text has its deck, and a source that is assembled to the same
-abbrev pub IsReadAs : List ℕ → List ℕ → Type 0
-IsReadAs read text = (assembly (parts_of read).source ≡ assembly (parts_of text).source) × ((parts_of read).deck ≡ (parts_of text).deck)
-
--- a bundle or a source, a deck that is given in place of its own, cards, and lines for the typewriter
-unfoldable pub print_output : PrintOptions → List ℕ → List ℕ → List ℕ → List ℕ → List ℕ → PrintOutcome
-print_output options part text deck cards typewriter =
-    let parts = parts_of text in
-    print_outcome options part (assembly parts.source) (units_asked options (deck_given options.deck parts.deck deck) cards typewriter)
-
 -- the bytes that an outcome writes
 abbrev pub bytes_of : PrintOutcome → List ℕ
 bytes_of (Answered bytes answer kept) = bytes
@@ -131,16 +91,6 @@ bytes_of (UnitsRefused fault) = []
 abbrev pub kept_of : PrintOutcome → List ℕ
 kept_of (Answered bytes answer kept) = kept
 kept_of (UnitsRefused fault) = []
-
--- What a call answers, writes and keeps is the outcome. Where memory is refused, or a write fails, a beginning of its bytes has been written;
--- where a read fails, none.
-abbrev pub Prints : PrintOutcome → Result Printed ToolFault → Option (List ℕ) → Option (List ℕ) → Type 0
-Prints outcome (Ok printed) old new = (outcome ≡ Answered (bytes_of outcome) printed.answer printed.deck.items) × Appends old new (bytes_of outcome)
-Prints outcome (Err (faults.Deck fault)) old new = (outcome ≡ UnitsRefused fault) × Keeps old new
-Prints outcome (Err faults.Long) old new = ⊥
-Prints outcome (Err faults.Memory) old new = AppendsFront old new (bytes_of outcome)
-Prints outcome (Err faults.Write) old new = AppendsFront old new (bytes_of outcome)
-Prints outcome (Err faults.Read) old new = Keeps old new
 
 -- What a run of a program has written and left: all that the outcome says, and a map that is drawn as it is to be; or, broken off, a beginning.
 abbrev pub Leaves : PrintOutcome → (List ℕ → Type 0) → Result Printed ToolFault → Option (List ℕ) → ℕ → Option (List ℕ) → ℕ → Type 0

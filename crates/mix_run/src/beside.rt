@@ -35,7 +35,7 @@ pub(crate) fn write_report<E: Out>(
 
 /// Tells the report of a source, unless a write has failed there before. If memory runs out, or what is told cannot be written, nothing more is told,
 /// and the run goes on.
-pub(crate) fn tell_report<E: Out>(alloc: Global, name: &str, source: &[u8], errors: &mut E)
+pub fn tell_report<E: Out>(alloc: Global, name: &str, source: &[u8], errors: &mut E)
     ensures begun { AppendsFront (E.told errors.old) (E.told errors.new) (report name.now source.now) }
 {
     if errors.failures() == 0 {

@@ -1,5 +1,5 @@
 //! The runs over streams: it cuts a bundle into source, deck and script, assembles the source, and executes the script, lists the source, or runs
-//! the program and writes what it prints; or it reports what is wrong with some sources.
+//! a program and writes what it prints; or it reports what is wrong with some sources.
 #![tactic(auto)]
 
 mod beside;
@@ -19,6 +19,7 @@ mod table;
 mod talk;
 mod units;
 
+pub use beside::tell_report;
 pub use bundle::run_bundle;
 pub use check::{Reports, no_reports, report_next, write_reports};
 pub use fault::ToolFault;
@@ -30,11 +31,10 @@ pub use mix_session::{
 };
 pub use opener::{Opener, Unread, Unsaved};
 pub use print::options::{AskedTable, PrintOptions, TableOf, UnitSet};
-pub use print::{
-    ConflictAt, Conflicts, PrintAnswer, PrintTexts, Printed, RanTo, RunEnd, run_printed,
-};
+pub use print::{ConflictAt, Conflicts, PrintAnswer, Printed, RanTo, RunEnd, run_printed};
 pub use reason::Reason;
 pub use run::{DebugOptions, run_debug};
 pub use statuses::{DONE, NOT_DONE, SOURCE_REFUSED};
 pub use table::TableFormat;
 pub use talk::{Streams, TalkTexts, Talker, run_talk};
+pub use units::{units_of, with_cards, with_typewriter};

@@ -1,8 +1,7 @@
 //! The units that a run begins with: those of a deck, and the lines of texts for the card reader and the typewriter.
-ghost use Rattle.std.specs.Prelude.{◌≡◌, ◌≢◌, ◌<◌, ◌+◌, ◌-◌, ◌^◌, ℕ, List, Some, Ok, Err, IfErr, IfOk, drop, false, true};
+ghost use Rattle.std.specs.Prelude.{◌≡◌, ◌≢◌, ◌<◌, ◌+◌, ◌-◌, ◌^◌, ℕ, List, Some, Err, IfOk, drop, false, true};
 ghost use Rattle.mix_machine.specs.units.deck.Deck.{deck_of, cards_of, typewriter_of, max_deck_bytes};
 ghost use Rattle.mix_stream.specs.Stream.{ConsumesAtMost, CountsFailure};
-ghost use Rattle.mix_run.specs.Output.{IsDeckRefusal};
 ghost use Rattle.mix_run.specs.UnitsRead.{GivesUnits, deck_given, units_in};
 
 use crate::bundle::copy_of;
@@ -12,10 +11,10 @@ use mix_refused::Refused;
 use mix_stream::{In, read_up_to};
 use std::alloc::Global;
 
-/// The units of a deck, or why there are none.
-pub(crate) fn units_of(alloc: Global, deck: &[u8]) -> Result<Units, ToolFault>
-    ensures units { IfOk result (λ units. deck_of deck.now ≡ Ok units) }
-    ensures refused { IfErr result (IsDeckRefusal (deck_of deck.now)) }
+/// The units of a deck, or why there are none. Of a longer deck its first 33,554,433 bytes say the same.
+pub fn units_of(alloc: Global, deck: &[u8]) -> Result<Units, ToolFault>
+    ensures units { GivesUnits (deck_of deck.now) result }
+    ensures only { result ≢ Err ToolFault.Read }
 {
     match Units::read(alloc, deck) {
         Err(Refused::Memory) => Err(ToolFault::Memory),
@@ -121,27 +120,10 @@ pub(crate) fn given_units<D: In>(
     }
 }
 
-/// Units with the cards of a text in place of those of unit 16; the text is read up to one byte more than it may have.
-pub(crate) fn read_cards<C: In>(
-    alloc: Global,
-    units: Units,
-    cards: &mut C,
-) -> Result<Units, ToolFault>
-    requires { C.failed cards.old < 2 ^ 64 - 1 }
-    ensures units { (c : List ℕ) → C.rest cards.old ≡ Some c → GivesUnits (cards_of units c) result }
-    ensures whole { (c : List ℕ) → C.rest cards.old ≡ Some c → IfOk result (λ _. C.rest cards.new ≡ Some (drop (max_deck_bytes + 1) c)) }
-    ensures read { CountsFailure (result ≡ Err ToolFault.Read) (C.failed cards.old) (C.failed cards.new) }
-    ensures cards { ConsumesAtMost (C.rest cards.old) (C.rest cards.new) (max_deck_bytes + 1) }
-    ensures only { result ≢ Err ToolFault.Write }
-{
-    let text = read_up_to(alloc, cards, MAX_DECK_BYTES + 1)?;
-    with_cards(alloc, units, &text)
-}
-
-// Units with the cards of a text, or why there are none.
-fn with_cards(alloc: Global, units: Units, text: &[u8]) -> Result<Units, ToolFault>
-    ensures units { IfOk result (λ us. cards_of units text.now ≡ Ok us) }
-    ensures refused { IfErr result (IsDeckRefusal (cards_of units text.now)) }
+/// Units with the cards of a text in place of those of unit 16, or why there are none; its first 33,554,433 bytes say the same.
+pub fn with_cards(alloc: Global, units: Units, text: &[u8]) -> Result<Units, ToolFault>
+    ensures units { GivesUnits (cards_of units text.now) result }
+    ensures only { result ≢ Err ToolFault.Read }
 {
     match units.with_cards(alloc, text) {
         Err(Refused::Memory) => Err(ToolFault::Memory),
@@ -150,26 +132,10 @@ fn with_cards(alloc: Global, units: Units, text: &[u8]) -> Result<Units, ToolFau
     }
 }
 
-/// Units with the lines of a text in place of the blocks of unit 19; the text is read up to one byte more than it may have.
-pub(crate) fn read_typewriter<T: In>(
-    alloc: Global,
-    units: Units,
-    typewriter: &mut T,
-) -> Result<Units, ToolFault>
-    requires { T.failed typewriter.old < 2 ^ 64 - 1 }
-    ensures units { (t : List ℕ) → T.rest typewriter.old ≡ Some t → GivesUnits (typewriter_of units t) result }
-    ensures read { CountsFailure (result ≡ Err ToolFault.Read) (T.failed typewriter.old) (T.failed typewriter.new) }
-    ensures typewriter { ConsumesAtMost (T.rest typewriter.old) (T.rest typewriter.new) (max_deck_bytes + 1) }
-    ensures only { result ≢ Err ToolFault.Write }
-{
-    let text = read_up_to(alloc, typewriter, MAX_DECK_BYTES + 1)?;
-    with_typewriter(alloc, units, &text)
-}
-
-// Units with the lines of a text for the typewriter, or why there are none.
-fn with_typewriter(alloc: Global, units: Units, text: &[u8]) -> Result<Units, ToolFault>
-    ensures units { IfOk result (λ us. typewriter_of units text.now ≡ Ok us) }
-    ensures refused { IfErr result (IsDeckRefusal (typewriter_of units text.now)) }
+/// Units with the lines of a text in place of the blocks of unit 19, in the same way.
+pub fn with_typewriter(alloc: Global, units: Units, text: &[u8]) -> Result<Units, ToolFault>
+    ensures units { GivesUnits (typewriter_of units text.now) result }
+    ensures only { result ≢ Err ToolFault.Read }
 {
     match units.with_typewriter(alloc, text) {
         Err(Refused::Memory) => Err(ToolFault::Memory),

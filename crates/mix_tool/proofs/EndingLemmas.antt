@@ -39,15 +39,9 @@ among-more [] more name h = absurd h
 among-more (first ∷ rest) more name (inl e) = inl e
 among-more (first ∷ rest) more name (inr h) = inr (among-more rest more name h)
 
-among-right : (names more : List (List ℕ)) (name : List ℕ) → IsAmong more name → IsAmong (names ++ more) name
+pub among-right : (names more : List (List ℕ)) (name : List ℕ) → IsAmong more name → IsAmong (names ++ more) name
 among-right [] more name h = h
 among-right (first ∷ rest) more name h = inr (among-right rest more name h)
-
--- a name of some files, or of one more
-pub among-both : (names : List (List ℕ)) (t : Option (List ℕ)) (first name : List ℕ) → IsAmong names first → IsAmong (first ∷ named t) name
-    → IsAmong (names ++ named t) name
-among-both names t first name one (inl e) = subst (IsAmong (names ++ named t)) (sym e) (among-more names (named t) first one)
-among-both names t first name one (inr h) = among-right names (named t) name h
 
 -- the status of a run is 0 to 3
 pub print_range : (run : Result PrintAnswer ToolFault) (status : ℕ) → status ≡ status_of_print run → status ≤ 3

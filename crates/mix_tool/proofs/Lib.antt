@@ -1,5 +1,6 @@
 mod CheckLemmas
 mod EndingLemmas
 mod OpeningLemmas
+mod RunLemmas
 mod SavingLemmas
 mod ToldLemmas

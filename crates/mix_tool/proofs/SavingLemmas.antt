@@ -2,7 +2,7 @@
 use Rattle.std.proofs.Common.{◌≡◌, ◌∙◌, ◌⊎◌, ⊎_elim, ℕ, List, [], ◌∷◌, ◌++◌, Option, Some, Result, Ok, Err, ap, inl, inr, refl, sym}
 use Rattle.std.specs.Prelude.{IfOk, unwrap_or}
 use Rattle.mix_run.specs.Opening.{Asks, Saved, noted, noted_one}
-use Rattle.mix_run.specs.PrintOutput.{PrintOutcome, Prints, kept_of}
+use Rattle.mix_run.specs.PrintOutput.{PrintOutcome, kept_of}
 use Rattle.mix_run.specs.declared.fault.ToolFault.{ToolFault}
 use Rattle.mix_run.specs.declared.print.PrintAnswer.{PrintAnswer}
 use Rattle.mix_run.specs.declared.print.PrintAnswer.TheVariants as answers
@@ -12,7 +12,8 @@ use Rattle.mix_run.specs.declared.print.steps.RunEnd.TheVariants as ends
 use Rattle.mix_plan.specs.declared.plan.Plan.{Plan}
 use Rattle.mix_plan.specs.declared.plan.Plan.TheVariants as plan
 use Rattle.mix_tool.proofs.CheckLemmas.{asks-nothing}
-use Rattle.mix_tool.specs.Plan.{Given, SavesOn}
+use Rattle.mix_tool.specs.Plan.{SavesOn}
+use Rattle.mix_tool.specs.Run.{Given, Prints}
 use Rattle.mix_tool.specs.Ending.{ByEnd, Creates, EndsWith, Saves, answer_of, saved_after, saved_as, saved_by, status_of_end, status_of_print}
 
 -- some files are saved, and then others

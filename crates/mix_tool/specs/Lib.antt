@@ -1,4 +1,5 @@
 pub mod Ending
 pub mod Plan
+pub mod Run
 pub mod Shelf
 pub mod Told

@@ -1,33 +1,19 @@
 -- What a plan does: the files that it opens, in their order, and the run that it makes on their texts.
-use Rattle.std.specs.Prelude.{◌≡◌, ◌≤◌, ⊤, ℕ, Bool, true, false, not, List, [], ◌∷◌, ◌++◌, Option, None, Some, option_map, is_some, map, string_bytes}
+use Rattle.std.specs.Prelude.{◌≡◌, ◌≤◌, ◌⊎◌, ⊤, ℕ, Bool, true, false, not, List, [], ◌∷◌, ◌++◌, Option, None, Some, option_map, is_some, map, string_bytes}
 use Rattle.std.specs.Option.{option_map_or}
 use Rattle.mixal_asm.specs.Assembly.{assembly}
 use Rattle.mix_machine.specs.units.deck.Deck.{deck_of}
 use Rattle.mix_plan.specs.declared.plan.DebugPlan.{DebugPlan}
 use Rattle.mix_plan.specs.declared.plan.Plan.{Plan}
 use Rattle.mix_plan.specs.declared.plan.Plan.TheVariants as plan
-use Rattle.mix_plan.specs.declared.run.AskedTable.{AskedTable}
 use Rattle.mix_plan.specs.declared.run.RunPlan.{RunPlan}
-use Rattle.mix_plan.specs.declared.run.TableFormat.{TableFormat}
-use Rattle.mix_plan.specs.declared.run.TableFormat.TheVariants as format
-use Rattle.mix_plan.specs.declared.run.TableOf.{TableOf}
-use Rattle.mix_plan.specs.declared.run.TableOf.TheVariants as rows
-use Rattle.mix_plan.specs.declared.run.UnitSet.{UnitSet}
 use Rattle.mix_run.specs.Check.{Named, check_output}
 use Rattle.mix_run.specs.Debug.{debug_output, origin_given}
-use Rattle.mix_run.specs.Drawn.{Draws}
 use Rattle.mix_run.specs.Output.{bundle_output, list_output}
-use Rattle.mix_run.specs.PrintOutput.{PrintOutcome, print_output}
-use Rattle.mix_run.specs.declared.print.options.AskedTable.{AskedTable as RunTable}
-use Rattle.mix_run.specs.declared.print.options.PrintOptions.{PrintOptions}
-use Rattle.mix_run.specs.declared.print.options.TableOf.{TableOf as RunRows}
-use Rattle.mix_run.specs.declared.print.options.TableOf.TheVariants as of
-use Rattle.mix_run.specs.declared.print.options.UnitSet.{UnitSet as RunUnits}
-use Rattle.mix_run.specs.declared.table.TableFormat.{TableFormat as RunFormat}
-use Rattle.mix_run.specs.declared.table.TableFormat.TheVariants as table
 use Rattle.mix_run.specs.declared.talk.Streams.{Streams}
 use Rattle.mix_run.specs.declared.talk.aside.Talker.{Talker}
 use Rattle.mix_tool.specs.Ending.{Runs, Saves, Seen, TalkRuns, Tells, not_opened}
+use Rattle.mix_tool.specs.Run.{Given, IsUnread, part_of, run_draws, run_output}
 use Rattle.mix_tool.specs.Told.{PrintRuns}
 use Rattle.mix_run.specs.Opening.{Files, Missing, Saved, WhyUnsaved, missing_of, named, opened_text, text_of}
 use Rattle.mix_tool.specs.declared.texts.Names.{Names}
@@ -92,14 +78,7 @@ names_in names = record {
   script = option_map (λ n. n.now) names.script;
 }
 
--- the texts of a plan: one that has no file is empty
-pub record Given : Type 0 where
-  pub source : List ℕ
-  pub deck : List ℕ
-  pub cards : List ℕ
-  pub typewriter : List ℕ
-  pub script : List ℕ
-
+-- the texts of a plan, as its files hold them
 abbrev pub given_of : Files → FileNames → Given
 given_of all names = record {
   source = text_of all names.source;
@@ -132,57 +111,17 @@ pub record AreFresh {R : Type 0} (failed : R → ℕ) (texts : Texts R) : Type 0
   pub typewriter : option_map_or failed texts.typewriter.reader 0 ≡ 0
   pub script : option_map_or failed texts.script.reader 0 ≡ 0
 
--- what is asked of a run
-abbrev pub units_of : UnitSet → RunUnits
-units_of units =
-    record { card_punch = units.card_punch; printer = units.printer; typewriter = units.typewriter; paper_tape = units.paper_tape }
-
--- the form of a table
-abbrev pub format_of : TableFormat → RunFormat
-format_of format.Csv = table.Csv
-format_of format.Json = table.Json
-format_of format.Latex = table.Latex
-
--- what a table is of
-abbrev pub rows_of : TableOf → RunRows
-rows_of rows.Counts = of.Counts
-rows_of rows.Trace = of.Trace
-rows_of rows.Writes = of.Writes
-
-abbrev pub table_of : AskedTable → RunTable
-table_of asked = record { of = rows_of asked.of; format = format_of asked.format }
-
--- the part whose changes a table has; no text is the name of none
-abbrev pub part_of : Option (List ℕ) → List ℕ
-part_of None = []
-part_of (Some part) = part
-
-abbrev pub options_of : RunPlan → PrintOptions
-options_of run =
-    record {
-      steps = run.steps;
-      units = units_of run.units;
-      deck = is_some run.devices;
-      cards = is_some run.cards;
-      typewriter = is_some run.typewriter;
-      trace = run.trace;
-      registers = run.registers;
-      strict = run.strict;
-      keep = is_some run.keep;
-      table = option_map table_of run.table;
-      map = is_some run.svg;
-    }
-
--- what a run of a plan writes, answers and keeps, by its texts, and which map it draws
-abbrev pub run_output : RunPlan → Given → PrintOutcome
-run_output run given = print_output (options_of run) (part_of (option_map string_bytes run.part)) given.source given.deck given.cards given.typewriter
-
-abbrev pub run_draws : RunPlan → Given → List ℕ → Type 0
-run_draws run given = Draws (options_of run) (part_of (option_map string_bytes run.part)) given.source given.deck given.cards given.typewriter
-
 -- the files in which a run saves the deck of its units and its map
 abbrev pub saved_names : RunPlan → List (List ℕ)
 saved_names run = named (option_map string_bytes run.keep) ++ named (option_map string_bytes run.svg)
+
+-- a file of a run is that of a text of which a read has failed
+abbrev pub HasFailed : {R : Type 0} → (R → ℕ) → RunPlan → Texts R → List ℕ → Type 0
+HasFailed failed run texts file =
+    IsUnread (Some (string_bytes run.source)) (option_map_or failed texts.source.reader 0) file
+    ⊎ (IsUnread (option_map string_bytes run.devices) (option_map_or failed texts.deck.reader 0) file
+    ⊎ (IsUnread (option_map string_bytes run.cards) (option_map_or failed texts.cards.reader 0) file
+    ⊎ IsUnread (option_map string_bytes run.typewriter) (option_map_or failed texts.typewriter.reader 0) file))
 
 -- the files that a run reads
 abbrev pub names_of_run : RunPlan → List (List ℕ)

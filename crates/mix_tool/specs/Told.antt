@@ -17,8 +17,9 @@ use Rattle.mix_run.specs.declared.print.watch.ConflictAt.{ConflictAt}
 use Rattle.mix_session.specs.Conflicts.{conflict_text}
 use Rattle.mix_session.specs.Fault.{refusal_text}
 use Rattle.mix_session.specs.declared.fault.Refusal.{Refusal}
-use Rattle.mix_run.specs.PrintOutput.{PrintOutcome, Prints}
+use Rattle.mix_run.specs.PrintOutput.{PrintOutcome}
 use Rattle.mix_tool.specs.Ending.{IsFileOf, Seen, Wrote, answer_of, memory_line, not_opened, not_written, report, status_of_print}
+use Rattle.mix_tool.specs.Run.{Prints}
 use Rattle.mix_word.specs.Text.{location_text}
 
 -- ---- lines that are told beside

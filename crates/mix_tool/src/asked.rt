@@ -1,7 +1,8 @@
 //! What a plan asks for: the names of its files, and what is asked of its run.
 
 ghost use Rattle.std.specs.Prelude.{◌≡◌, option_map, string_bytes};
-ghost use Rattle.mix_tool.specs.Plan.{format_of, names_in, names_of, options_of, part_of, rows_of};
+ghost use Rattle.mix_tool.specs.Plan.{names_in, names_of};
+ghost use Rattle.mix_tool.specs.Run.{format_of, options_of, part_of, rows_of};
 
 use crate::texts::Names;
 use mix_plan::{Plan, RunPlan};
@@ -87,9 +88,6 @@ pub(crate) fn options_of(plan: &RunPlan) -> PrintOptions
             typewriter: plan.units.typewriter,
             paper_tape: plan.units.paper_tape,
         },
-        deck: plan.devices.is_some(),
-        cards: plan.cards.is_some(),
-        typewriter: plan.typewriter.is_some(),
         trace: plan.trace,
         registers: plan.registers,
         strict: plan.strict,

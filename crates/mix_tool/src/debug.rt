@@ -2,7 +2,8 @@
 
 ghost use Rattle.std.specs.Prelude.{Some, ◌≡◌, ◌≢◌, ◌<◌, ◌≤◌, ◌-◌, ◌^◌, false};
 ghost use Rattle.mix_run.specs.Opening.{Files};
-ghost use Rattle.mix_tool.specs.Plan.{AreFresh, DebugsOn, Given, HoldTexts, is_talk, seen};
+ghost use Rattle.mix_tool.specs.Plan.{AreFresh, DebugsOn, HoldTexts, is_talk, seen};
+ghost use Rattle.mix_tool.specs.Run.{Given};
 
 use crate::ending::{status, status_beside, unread};
 use crate::texts::Texts;

@@ -8,7 +8,8 @@ ghost use Rattle.mix_stream.specs.Stream.{CountsFailure};
 ghost use Rattle.mix_lsp.specs.Served.{ServedAs};
 ghost use Rattle.mix_run.specs.Opening.{Asks, Files, asked_of, missing_of};
 ghost use Rattle.mix_tool.specs.Ending.{Creates};
-ghost use Rattle.mix_tool.specs.Plan.{AreFresh, Given, HoldTexts, DoneAfter, IsDone, RunsOn, SavesOn, creates_of, files_of, given_of, adapts, hears_client, in_order, is_quiet, names_of, reads_input, seen, sources_of, speaks};
+ghost use Rattle.mix_tool.specs.Plan.{AreFresh, HoldTexts, DoneAfter, IsDone, RunsOn, SavesOn, creates_of, files_of, given_of, adapts, hears_client, in_order, is_quiet, names_of, reads_input, seen, sources_of, speaks};
+ghost use Rattle.mix_tool.specs.Run.{Given};
 
 use crate::asked::names_in;
 use crate::check::check_files;

@@ -3,7 +3,7 @@
 ghost use Rattle.std.specs.Prelude.{◌≡◌, IfOk, codes, option_map, string_bytes};
 ghost use Rattle.mix_machine.specs.Fault.{fault_line};
 ghost use Rattle.mix_tool.specs.Ending.{answer_of, status_of_end, status_of_print};
-ghost use Rattle.mix_tool.specs.Plan.{part_of};
+ghost use Rattle.mix_tool.specs.Run.{part_of};
 ghost use Rattle.mix_tool.specs.Told.{TellsAll, answer_told, at_text, beside, conflict_told, end_told, no_part, place_text, ran_told, stop_text};
 
 use crate::asked::part_of;

@@ -5,7 +5,7 @@ ghost use Rattle.std.specs.Option.{option_map_or};
 ghost use Rattle.mix_run.specs.Opening.{Files, Opens, named, text_of};
 ghost use Rattle.mix_tool.specs.Plan.{AreFresh, HoldTexts, given_of, in_order, names_in, rest_of};
 
-use mix_run::{Opener, PrintTexts, Reason};
+use mix_run::{Opener, Reason};
 use mix_stream::{Failed, In};
 
 /// A text that may be named: the reader of its file, and where it is not named no byte.
@@ -55,27 +55,6 @@ pub(crate) struct Texts<R> {
     pub(crate) cards: Text<R>,
     pub(crate) typewriter: Text<R>,
     pub(crate) script: Text<R>,
-}
-
-impl<R: Drop> Texts<R> {
-    /// Those that a run reads.
-    pub(crate) fn of_run(self) -> PrintTexts<Text<R>, Text<R>, Text<R>, Text<R>>
-        ensures { result ≡ record { source = self.source; deck = self.deck; cards = self.cards; typewriter = self.typewriter } }
-    {
-        let Texts {
-            source,
-            deck,
-            cards,
-            typewriter,
-            script: _,
-        } = self;
-        PrintTexts {
-            source,
-            deck,
-            cards,
-            typewriter,
-        }
-    }
 }
 
 /// A file that could not be opened, and why.

@@ -1,5 +1,5 @@
-//! What is asked of a run: how many steps, the rows of which units, whether a deck, cards and lines for the typewriter are given, whether its steps
-//! are traced, whether the registers are written at its end, whether it ends before a conflict, whether what the units hold at the end is kept, whether a table is written, and whether its map is drawn.
+//! What is asked of a run: how many steps, the rows of which units, whether its steps are traced, whether the registers at its end are written, whether
+//! it ends before a conflict, whether what the units hold at the end is kept, whether a table is written, and whether its map is drawn.
 ghost use Rattle.std.specs.Prelude.{◌≡◌, true, false};
 
 use crate::table::TableFormat;
@@ -54,12 +54,6 @@ pub struct PrintOptions {
     pub steps: u64,
     /// The units whose rows are printed.
     pub units: UnitSet,
-    /// Whether the deck is read from a text of its own, in place of that of the bundle.
-    pub deck: bool,
-    /// Whether the cards of unit 16 are read from a text of their own, in place of those of the deck.
-    pub cards: bool,
-    /// Whether the lines that unit 19 reads come from a text of their own, instead of the deck.
-    pub typewriter: bool,
     /// Whether the line of each step is written too.
     pub trace: bool,
     /// Whether the registers, the toggle, the indicator, the location and the clock at the end are written too, where no table is.

@@ -1,7 +1,6 @@
 -- A deck that is read, or one in a text.
 use Rattle.std.proofs.Common.{◌∙◌, sym, true≢false}
-use Rattle.mix_machine.specs.units.deck.Deck.{deck_of}
-use Rattle.mix_run.proofs.RunLemmas.{ConsumesAtMost-none, gives-units}
+use Rattle.mix_run.proofs.RunLemmas.{ConsumesAtMost-none}
 use Rattle.mix_run.proofs.units.given_units.Goals as goal
 
 pub returns-then-given-clause-units : goal.returns-then-given-clause-units
@@ -11,8 +10,7 @@ pub returns-then-given-clause-whole : goal.returns-then-given-clause-whole
 returns-then-given-clause-whole g c d hd asked = c.read_units.ensures.whole d hd
 
 pub returns-else-given-clause-units : goal.returns-else-given-clause-units
-returns-else-given-clause-units g c d hd =
-    rw c.if-given.false (gives-units (deck_of c.args.own.now) _ c.units_of.ensures.units c.units_of.ensures.refused)
+returns-else-given-clause-units g c d hd = rw c.if-given.false c.units_of.ensures.units
 
 pub returns-else-given-clause-whole : goal.returns-else-given-clause-whole
 returns-else-given-clause-whole g c d hd asked = absurd (true≢false (sym asked ∙ c.if-given.false))

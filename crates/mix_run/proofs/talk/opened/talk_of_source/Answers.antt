@@ -9,8 +9,7 @@ use Rattle.mix_run.specs.Debug.{origin_given}
 use Rattle.mix_run.specs.PrintOutput.{parts_of}
 use Rattle.mix_run.specs.UnitsRead.{GivesUnits, deck_given}
 use Rattle.mix_run.specs.declared.fault.ToolFault.TheVariants.{Long}
-use Rattle.mix_run.proofs.DebugLemmas.{deck-used, parts-made, parts-whole}
-use Rattle.mix_run.proofs.PrintOutputLemmas.{parts-taken}
+use Rattle.mix_run.proofs.DebugLemmas.{deck-used, parts-made, parts-taken, parts-whole}
 use Rattle.mix_run.proofs.RunLemmas.{ConsumesAtMost-none}
 use Rattle.mix_run.proofs.TalkMeets.{TalksWith-given, TalksWith-made, TalksWith-no_units, TalksWith-unread, counts-after, not-long, saved-as}
 use Rattle.mix_run.proofs.talk.opened.talk_of_source.Goals as goal

@@ -1,12 +1,13 @@
 -- What is refused for its length alone shows in its first bytes, one more than it may have.
 use Rattle.std.proofs.Common.{◌≡◌, ℕ, suc, ◌<◌, ◌≤◌, Bool, true, false, cond, ltb, List, length, take, Result, Ok, Err, refl, sym, ap, ◌∙◌, arith}
 use Rattle.std.proofs.lemmas.Bool.{lt-ltb, ltb-true, ltb-false}
-use Rattle.std.proofs.lemmas.List.{take_all, length-take-le}
+use Rattle.std.proofs.lemmas.List.{length-take-le, take-take, take_all}
 use Rattle.mixal_asm.specs.Assembly.{assembly, program_from}
 use Rattle.mixal_asm.specs.PassOne.{at_first}
 use Rattle.mixal_asm.specs.Program.{ProgramValue}
 use Rattle.mix_machine.specs.units.Units.{UnitsState}
 use Rattle.mix_machine.specs.units.deck.Deck.{lines_from, deck_of, text_of_unit, nothing_read, no_line_read}
+use Rattle.mix_files.specs.Bundle.{parts_of}
 use Rattle.mix_lines.specs.Lines.{lines}
 
 by_length : {A : Type 0} (limit : ℕ) (refused : A) (read : List ℕ → A) (bytes : List ℕ) (v : Bool) → ltb limit (length bytes) ≡ v
@@ -38,6 +39,29 @@ pub assembly-take : (source : List ℕ) → assembly (take 1048577 source) ≡ a
 unfolding assembly
 assembly-take source = limited-take 1048576 _ (λ text. program_from at_first (lines text)) source
 
+-- a source is assembled from its first bytes, and so from more of them
+assembly-of-front : (text : List ℕ) → assembly (take 41943041 text) ≡ assembly text
+assembly-of-front text =
+    let same : take 1048577 (take 41943041 text) ≡ take 1048577 text = take-take 1048577 41943041 text (omega arith) in
+    sym (assembly-take (take 41943041 text)) ∙ ap assembly same ∙ assembly-take text
+
+parts-read-as : (text read : List ℕ) → read ≡ take 41943041 text → (v : Bool) → ltb 41943040 (length text) ≡ v
+    → (assembly (parts_of read).source ≡ assembly (parts_of text).source) × ((parts_of read).deck ≡ (parts_of text).deck)
+unfolding parts_of
+parts-read-as text read e true long =
+    let many : 41943041 ≤ length text = omega (arith, ltb-true 41943040 (length text) long) in
+    let more : 41943040 < length read = omega (arith, ap length e ∙ length-take-le 41943041 text many) in
+    rw (lt-ltb 41943040 (length read) more, long) (ap assembly e ∙ assembly-of-front text, refl)
+parts-read-as text read e false few =
+    let none : length text ≤ 41943040 = ltb-false 41943040 (length text) few in
+    let same : read ≡ text = e ∙ take_all 41943041 text (omega arith) in
+    (ap (λ t. assembly (parts_of t).source) same, ap (λ t. (parts_of t).deck) same)
+
+-- the parts of a text that was read up to one byte more than a bundle may have
+pub parts-read : (text read : List ℕ) → read ≡ take 41943041 text
+    → (assembly (parts_of read).source ≡ assembly (parts_of text).source) × ((parts_of read).deck ≡ (parts_of text).deck)
+parts-read text read e = parts-read-as text read e (ltb 41943040 (length text)) refl
+
 -- what is not refused for its length is all that is read of it
 whole-by : {A E : Type 0} (limit : ℕ) (refused : E) (read : Result A E) (bytes : List ℕ) (x : A) (v : Bool) → ltb limit (length bytes) ≡ v
     → cond v (Err refused) read ≡ Ok x → take (suc limit) bytes ≡ bytes
@@ -56,5 +80,3 @@ deck-whole deck units e = whole-by 33554432 _ _ deck units (ltb 33554432 (length
 -- a deck that is not refused is all that is read of it
 pub deck-read-whole : (deck read : List ℕ) (units : UnitsState) → read ≡ take 33554433 deck → deck_of read ≡ Ok units → read ≡ deck
 deck-read-whole deck read units e made = e ∙ deck-whole deck units (sym (ap deck_of e ∙ deck_of-take deck) ∙ made)
-
-pub ruleset truncations = (deck_of-take, assembly-take)

@@ -1,0 +1,192 @@
+-- A run of a plan is that of its program with the units of its texts.
+use Rattle.std.proofs.Common.{◌≡◌, ◌∙◌, ℕ, Bool, List, [], ◌∷◌, ◌++◌, Option, None, Some, Result, Ok, Err, IfErr, IfOk, ap, arith, inl, inr, refl, subst, sym, take}
+use Rattle.std.proofs.lemmas.List.{append-nil}
+use Rattle.std.specs.Io.KnownBytes.{Appends, Keeps}
+use Rattle.std.specs.Prelude.{option_map, string_bytes}
+use Rattle.mix_files.specs.Bundle.{parts_of}
+use Rattle.mixal_asm.specs.Assembly.{assembly}
+use Rattle.mixal_asm.specs.Program.{ProgramValue}
+use Rattle.mixal_asm.specs.declared.fault.AsmFault.{AsmFault}
+use Rattle.mix_machine.specs.units.Units.{UnitsState}
+use Rattle.mix_machine.specs.declared.units.deck_fault.DeckFault.{DeckFault}
+use Rattle.mix_plan.specs.declared.run.RunPlan.{RunPlan}
+use Rattle.mix_run.specs.Drawn.{DrawnRun}
+use Rattle.mix_run.specs.Fault.{IsMemoryOrRead}
+use Rattle.mix_run.specs.Opening.{named}
+use Rattle.mix_run.specs.PrintOutput.{Leaves, PrintOutcome, outcome_of_run}
+use Rattle.mix_run.specs.UnitsRead.{GivesUnits}
+use Rattle.mix_run.specs.declared.fault.ToolFault.{ToolFault}
+use Rattle.mix_run.specs.declared.fault.ToolFault.TheVariants as faults
+use Rattle.mix_run.specs.declared.print.PrintAnswer.TheVariants.{Refused}
+use Rattle.mix_run.specs.declared.print.Printed.{Printed}
+use Rattle.mix_run.specs.law.Truncation.{parts-read}
+use Rattle.mix_stream.specs.Stream.{CountsFailure}
+use Rattle.mix_tool.specs.Ending.{IsAmong}
+use Rattle.mix_tool.specs.Plan.{names_of_run}
+use Rattle.mix_tool.specs.Run.{Given, Prints, options_of, part_of, print_outcome, run_draws, run_output, units_asked, with_text, without_file}
+use Rattle.mix_tool.specs.declared.read.RunFault.{RunFault}
+use Rattle.mix_tool.proofs.EndingLemmas.{among-more, among-right}
+
+-- ---- nothing is written
+
+appends-nothing : (told : Option (List ℕ)) → Appends told told []
+appends-nothing None = tt
+appends-nothing (Some bytes) = sym (append-nil bytes)
+
+keeps-same : (told : Option (List ℕ)) → Keeps told told
+keeps-same None = tt
+keeps-same (Some bytes) = refl
+
+-- a read failed, or memory was refused for what is read
+pub prints-unread : (outcome : PrintOutcome) (fault : ToolFault) (told : Option (List ℕ)) → IsMemoryOrRead fault → Prints outcome (Err fault) told told
+prints-unread outcome faults.Memory told only = (0, omega arith, appends-nothing told)
+prints-unread outcome faults.Read told only = keeps-same told
+prints-unread outcome faults.Write told only = absurd only
+prints-unread outcome (faults.Deck fault) told only = absurd only
+prints-unread outcome faults.Long told only = absurd only
+
+-- ---- the lines of a text, for units that were made or not
+
+pub gives-none : (n : ℕ) (before : Result UnitsState DeckFault) (given : Bool) (text : List ℕ) (fault : ToolFault) → GivesUnits before (Err fault)
+    → GivesUnits (with_text n before given text) (Err fault)
+gives-none n before given text faults.Memory h = tt
+gives-none n before given text faults.Read h = tt
+gives-none n before given text (faults.Deck fault) h = rw h refl
+gives-none n before given text faults.Write h = absurd h
+gives-none n before given text faults.Long h = absurd h
+
+pub gives-text : (n : ℕ) (before : Result UnitsState DeckFault) (units : UnitsState) (given : Bool) (text : List ℕ) (answer : Result UnitsState ToolFault)
+    → before ≡ Ok units → GivesUnits (with_text n (Ok units) given text) answer → GivesUnits (with_text n before given text) answer
+gives-text n before units given text answer made h = rw made h
+
+-- ---- a source that was read up to one byte more than a bundle may have
+
+made-of : (run : RunPlan) (given : Given) (read source : List ℕ) (made : Result ProgramValue AsmFault) → read ≡ take 41943041 given.source
+    → source ≡ (parts_of read).source → assembly source ≡ made → assembly (parts_of given.source).source ≡ made
+made-of run given read source made e s f = sym (parts-read given.source read e).0 ∙ sym (ap assembly s) ∙ f
+
+-- one that is refused
+pub prints-refused : (run : RunPlan) (given : Given) (read source : List ℕ) (fault : AsmFault) (printed : Printed) (told : Option (List ℕ))
+    → read ≡ take 41943041 given.source → source ≡ (parts_of read).source → assembly source ≡ Err fault → printed.answer ≡ Refused fault
+    → printed.deck.items ≡ [] → Prints (run_output run given) (Ok printed) told told
+unfolding run_output
+prints-refused run given read source fault printed told e s f is none =
+    rw (made-of run given read source (Err fault) e s f, is, none) (refl, appends-nothing told)
+
+pub draws-refused : (run : RunPlan) (given : Given) (read source map : List ℕ) (fault : AsmFault) → read ≡ take 41943041 given.source
+    → source ≡ (parts_of read).source → assembly source ≡ Err fault → map ≡ [] → run_draws run given map
+unfolding run_draws
+draws-refused run given read source map fault e s f none = rw (made-of run given read source (Err fault) e s f) none
+
+-- one that is assembled, and no units
+no_units : (run : RunPlan) (part : List ℕ) (program : ProgramValue) (units : Result UnitsState DeckFault) (fault : ToolFault) (told : Option (List ℕ))
+    → GivesUnits units (Err fault) → Prints (print_outcome (options_of run) part (Ok program) units) (Err fault) told told
+no_units run part program units faults.Memory told h = (0, omega arith, appends-nothing told)
+no_units run part program units faults.Read told h = keeps-same told
+no_units run part program units (faults.Deck fault) told h = rw h (refl, keeps-same told)
+no_units run part program units faults.Write told h = absurd h
+no_units run part program units faults.Long told h = absurd h
+
+pub prints-no_units : (run : RunPlan) (given : Given) (read source own : List ℕ) (program : ProgramValue) (fault : ToolFault) (told : Option (List ℕ))
+    → read ≡ take 41943041 given.source → source ≡ (parts_of read).source → own ≡ (parts_of read).deck → assembly source ≡ Ok program
+    → GivesUnits (units_asked run own given) (Err fault) → Prints (run_output run given) (Err fault) told told
+unfolding run_output
+prints-no_units run given read source own program fault told e s o made h =
+    let deck : own ≡ (parts_of given.source).deck = o ∙ (parts-read given.source read e).1 in
+    let part = part_of (option_map string_bytes run.part) in
+    let units = units_asked run (parts_of given.source).deck given in
+    let same : run_output run given ≡ print_outcome (options_of run) part (Ok program) units =
+    ap (λ made. print_outcome (options_of run) part made units) (made-of run given read source (Ok program) e s made) in
+    subst (λ o. Prints o (Err fault) told told) (sym same) (no_units run part program units fault told
+    (subst (λ d. GivesUnits (units_asked run d given) (Err fault)) deck h))
+
+-- and units
+pub prints-made : (run : RunPlan) (given : Given) (read source own : List ℕ) (program : ProgramValue) (units : UnitsState) (done : Result Printed ToolFault)
+    (old new : Option (List ℕ)) → read ≡ take 41943041 given.source → source ≡ (parts_of read).source → own ≡ (parts_of read).deck
+    → assembly source ≡ Ok program → units_asked run own given ≡ Ok units
+    → Prints (outcome_of_run (options_of run) (part_of (option_map string_bytes run.part)) program units) done old new
+    → Prints (run_output run given) done old new
+unfolding run_output
+prints-made run given read source own program units done old new e s o made asked prints =
+    let deck : own ≡ (parts_of given.source).deck = o ∙ (parts-read given.source read e).1 in
+    let here : units_asked run (parts_of given.source).deck given ≡ Ok units = rw deck at asked in
+    rw (made-of run given read source (Ok program) e s made) (rw here prints)
+
+pub draws-made : (run : RunPlan) (given : Given) (read source own : List ℕ) (program : ProgramValue) (units : UnitsState) (done : Result Printed ToolFault)
+    → read ≡ take 41943041 given.source → source ≡ (parts_of read).source → own ≡ (parts_of read).deck
+    → assembly source ≡ Ok program → units_asked run own given ≡ Ok units
+    → IfOk done (λ p. DrawnRun (options_of run) (part_of (option_map string_bytes run.part)) program units p.map.items)
+    → IfOk done (λ p. run_draws run given p.map.items)
+unfolding run_draws
+draws-made run given read source own program units done e s o made asked drawn =
+    let deck : own ≡ (parts_of given.source).deck = o ∙ (parts-read given.source read e).1 in
+    let here : units_asked run (parts_of given.source).deck given ≡ Ok units = rw deck at asked in
+    rw (made-of run given read source (Ok program) e s made) (rw here drawn)
+
+-- what is left of a run is what it prints, and its map
+pub leaves-prints : (outcome : PrintOutcome) (IsDrawn : List ℕ → Type 0) (done : Result Printed ToolFault) (a b : Option (List ℕ)) (n m : ℕ)
+    → Leaves outcome IsDrawn done a n b m → Prints outcome done a b
+leaves-prints outcome IsDrawn (Ok printed) a b n m leaves = (leaves.0.0, leaves.1)
+leaves-prints outcome IsDrawn (Err faults.Memory) a b n m broken = broken.0
+leaves-prints outcome IsDrawn (Err faults.Write) a b n m broken = broken.0
+leaves-prints outcome IsDrawn (Err faults.Read) a b n m broken = absurd broken
+leaves-prints outcome IsDrawn (Err (faults.Deck fault)) a b n m broken = absurd broken
+leaves-prints outcome IsDrawn (Err faults.Long) a b n m broken = absurd broken
+
+pub leaves-map : (outcome : PrintOutcome) (IsDrawn : List ℕ → Type 0) (done : Result Printed ToolFault) (a b : Option (List ℕ)) (n m : ℕ)
+    → Leaves outcome IsDrawn done a n b m → IfOk done (λ p. IsDrawn p.map.items)
+leaves-map outcome IsDrawn (Ok printed) a b n m leaves = leaves.0.1
+leaves-map outcome IsDrawn (Err fault) a b n m broken = tt
+
+-- one more write has failed exactly where that is answered
+pub leaves-written : (outcome : PrintOutcome) (IsDrawn : List ℕ → Type 0) (done : Result Printed ToolFault) (a b : Option (List ℕ)) (n m : ℕ)
+    → Leaves outcome IsDrawn done a n b m → CountsFailure (done ≡ Err faults.Write) n m
+leaves-written outcome IsDrawn (Ok printed) a b n m leaves = let same = leaves.2 in (((λ e. absurd cc), (λ more. absurd (omega (arith, same, more)))), (λ other. same))
+leaves-written outcome IsDrawn (Err faults.Memory) a b n m broken = let same = broken.1 in (((λ e. absurd cc), (λ more. absurd (omega (arith, same, more)))), (λ other. same))
+leaves-written outcome IsDrawn (Err faults.Write) a b n m broken = (((λ e. broken.1), (λ more. refl)), (λ other. absurd (other refl)))
+leaves-written outcome IsDrawn (Err faults.Read) a b n m broken = absurd broken
+leaves-written outcome IsDrawn (Err (faults.Deck fault)) a b n m broken = absurd broken
+leaves-written outcome IsDrawn (Err faults.Long) a b n m broken = absurd broken
+
+-- ---- the file of a fault
+
+pub when-err : {A E : Type 0} (r : Result A E) {P Q : E → Type 0} → ((e : E) → P e → Q e) → IfErr r P → IfErr r Q
+when-err (Ok x) more is = tt
+when-err (Err e) more is = more e is
+
+-- it is one of those that are read
+pub among-deck : (run : RunPlan) (file : List ℕ) → IsAmong (string_bytes run.source ∷ named (option_map string_bytes run.devices)) file
+    → IsAmong (names_of_run run) file
+among-deck run file (inl is) = inl is
+among-deck run file (inr deck) =
+    let devices = named (option_map string_bytes run.devices) in
+    let cards = named (option_map string_bytes run.cards) in
+    inr (among-more (devices ++ cards) (named (option_map string_bytes run.typewriter)) file (among-more devices cards file deck))
+
+among-named : (name : Option (List ℕ)) (file : List ℕ) → name ≡ Some file → IsAmong (named name) file
+among-named name file is = rw is (inl refl)
+
+pub among-cards : (run : RunPlan) (file : List ℕ) → option_map string_bytes run.cards ≡ Some file → IsAmong (names_of_run run) file
+among-cards run file is =
+    let devices = named (option_map string_bytes run.devices) in
+    let cards = option_map string_bytes run.cards in
+    inr (among-more (devices ++ named cards) (named (option_map string_bytes run.typewriter)) file (among-right devices (named cards) file (among-named cards file is)))
+
+pub among-typewriter : (run : RunPlan) (file : List ℕ) → option_map string_bytes run.typewriter ≡ Some file → IsAmong (names_of_run run) file
+among-typewriter run file is =
+    let before = named (option_map string_bytes run.devices) ++ named (option_map string_bytes run.cards) in
+    let typewriter = option_map string_bytes run.typewriter in
+    inr (among-right before (named typewriter) file (among-named typewriter file is))
+
+pub file-among : (run : RunPlan) (ran : Result Printed RunFault) (file : List ℕ) → IfOk ran (λ _. file ≡ string_bytes run.source)
+    → IfErr ran (λ e. file ≡ e.file.now) → IfErr ran (λ e. IsAmong (names_of_run run) e.file.now) → IsAmong (names_of_run run) file
+file-among run (Ok printed) file is same among = inl is
+file-among run (Err broken) file is same among = subst (IsAmong (names_of_run run)) (sym same) among
+
+-- no read fails while a program is run
+pub leaves-unread : (outcome : PrintOutcome) (IsDrawn : List ℕ → Type 0) (done : Result Printed ToolFault) (ran : Result Printed RunFault)
+    (a b : Option (List ℕ)) (n m : ℕ) (P : RunFault → Type 0) → without_file ran ≡ done → Leaves outcome IsDrawn done a n b m
+    → IfErr ran (λ e. e.fault ≡ faults.Read → P e)
+leaves-unread outcome IsDrawn done (Ok printed) a b n m P same leaves = tt
+leaves-unread outcome IsDrawn done (Err broken) a b n m P same leaves =
+    λ read. absurd (subst (λ (r : Result Printed ToolFault). Leaves outcome IsDrawn r a n b m) (sym same ∙ ap Err read) leaves)

@@ -1,0 +1,11 @@
+-- The lines of a file, if one is named.
+use Rattle.std.proofs.Common.{◌∙◌, ap, subst}
+use Rattle.mix_machine.specs.units.deck.Deck.{text_of_unit}
+use Rattle.mix_run.specs.UnitsRead.{GivesUnits}
+use Rattle.mix_run.specs.law.Truncation.{text_of-take}
+use Rattle.mix_tool.proofs.read.units_with_lines.Goals as goal
+
+pub returns-in-Ok-clause-units : goal.returns-in-Ok-clause-units
+returns-in-Ok-clause-units g c t ht =
+    let same = ap (text_of_unit c.args.units 19) (c.deref.ensures.value ∙ c.in-Ok.ensures.whole t ht) ∙ text_of-take c.args.units 19 t in
+    rw (c.in-Some.is, c.of_file.ensures.answer) (subst (λ r. GivesUnits r c.with_typewriter.result) same c.with_typewriter.ensures.units)

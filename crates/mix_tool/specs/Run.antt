@@ -1,0 +1,131 @@
+-- What a run of a plan writes, answers and keeps, and which map it draws: functions of what it asks for and of its texts.
+use Rattle.std.specs.Prelude.{◌≡◌, ◌≢◌, ℕ, Bool, List, [], Option, None, Some, option_map, is_some, string_bytes, Result, Ok, Err, if◌then◌else◌}
+use Rattle.std.specs.Io.KnownBytes.{Appends, Keeps}
+use Rattle.mix_files.specs.Bundle.{parts_of}
+use Rattle.mixal_asm.specs.Assembly.{assembly}
+use Rattle.mixal_asm.specs.Program.{ProgramValue}
+use Rattle.mixal_asm.specs.declared.fault.AsmFault.{AsmFault}
+use Rattle.mix_machine.specs.units.Units.{UnitsState}
+use Rattle.mix_machine.specs.units.deck.Deck.{deck_of, text_of_unit}
+use Rattle.mix_machine.specs.declared.units.deck_fault.DeckFault.{DeckFault}
+use Rattle.mix_plan.specs.declared.run.AskedTable.{AskedTable}
+use Rattle.mix_plan.specs.declared.run.RunPlan.{RunPlan}
+use Rattle.mix_plan.specs.declared.run.TableFormat.{TableFormat}
+use Rattle.mix_plan.specs.declared.run.TableFormat.TheVariants as format
+use Rattle.mix_plan.specs.declared.run.TableOf.{TableOf}
+use Rattle.mix_plan.specs.declared.run.TableOf.TheVariants as rows
+use Rattle.mix_plan.specs.declared.run.UnitSet.{UnitSet}
+use Rattle.mix_run.specs.Drawn.{DrawnRun}
+use Rattle.mix_run.specs.PrintOutput.{Answered, PrintOutcome, UnitsRefused, bytes_of, outcome_of_run}
+use Rattle.mix_run.specs.UnitsRead.{deck_given}
+use Rattle.mix_run.specs.declared.fault.ToolFault.{ToolFault}
+use Rattle.mix_run.specs.declared.fault.ToolFault.TheVariants as faults
+use Rattle.mix_run.specs.declared.print.PrintAnswer.TheVariants.{Refused}
+use Rattle.mix_run.specs.declared.print.Printed.{Printed}
+use Rattle.mix_run.specs.declared.print.options.AskedTable.{AskedTable as RunTable}
+use Rattle.mix_run.specs.declared.print.options.PrintOptions.{PrintOptions}
+use Rattle.mix_run.specs.declared.print.options.TableOf.{TableOf as RunRows}
+use Rattle.mix_run.specs.declared.print.options.TableOf.TheVariants as of
+use Rattle.mix_run.specs.declared.print.options.UnitSet.{UnitSet as RunUnits}
+use Rattle.mix_run.specs.declared.table.TableFormat.{TableFormat as RunFormat}
+use Rattle.mix_run.specs.declared.table.TableFormat.TheVariants as table
+use Rattle.mix_stream.specs.Stream.{AppendsFront}
+use Rattle.mix_tool.specs.declared.read.RunFault.{RunFault}
+
+-- the texts of a plan: one that has no file is empty
+pub record Given : Type 0 where
+  pub source : List ℕ
+  pub deck : List ℕ
+  pub cards : List ℕ
+  pub typewriter : List ℕ
+  pub script : List ℕ
+
+-- what is asked of a run
+abbrev pub units_of : UnitSet → RunUnits
+units_of units =
+    record { card_punch = units.card_punch; printer = units.printer; typewriter = units.typewriter; paper_tape = units.paper_tape }
+
+-- the form of a table
+abbrev pub format_of : TableFormat → RunFormat
+format_of format.Csv = table.Csv
+format_of format.Json = table.Json
+format_of format.Latex = table.Latex
+
+-- what a table is of
+abbrev pub rows_of : TableOf → RunRows
+rows_of rows.Counts = of.Counts
+rows_of rows.Trace = of.Trace
+rows_of rows.Writes = of.Writes
+
+abbrev pub table_of : AskedTable → RunTable
+table_of asked = record { of = rows_of asked.of; format = format_of asked.format }
+
+-- the part whose changes a table has; no text is the name of none
+abbrev pub part_of : Option (List ℕ) → List ℕ
+part_of None = []
+part_of (Some part) = part
+
+abbrev pub options_of : RunPlan → PrintOptions
+options_of run =
+    record {
+      steps = run.steps;
+      units = units_of run.units;
+      trace = run.trace;
+      registers = run.registers;
+      strict = run.strict;
+      keep = is_some run.keep;
+      table = option_map table_of run.table;
+      map = is_some run.svg;
+    }
+
+-- the lines of a text, if there is one, for a unit of those that were read before
+abbrev pub with_text : ℕ → Result UnitsState DeckFault → Bool → List ℕ → Result UnitsState DeckFault
+with_text unit (Err fault) given text = Err fault
+with_text unit (Ok units) given text = if given then text_of_unit units unit text else Ok units
+
+-- the units of the deck that is named, or otherwise of that of the bundle, with the cards and the lines for the typewriter, if they are named
+abbrev pub units_asked : RunPlan → List ℕ → Given → Result UnitsState DeckFault
+units_asked run own given =
+    with_text 19 (with_text 16 (deck_of (deck_given (is_some run.devices) own given.deck)) (is_some run.cards) given.cards) (is_some run.typewriter) given.typewriter
+
+-- an assembled source, with its units
+abbrev pub print_outcome : PrintOptions → List ℕ → Result ProgramValue AsmFault → Result UnitsState DeckFault → PrintOutcome
+print_outcome options part (Err fault) units = Answered [] (Refused fault) []
+print_outcome options part (Ok program) (Err fault) = UnitsRefused fault
+print_outcome options part (Ok program) (Ok units) = outcome_of_run options part program units
+
+-- what a run of a plan writes, answers and keeps, by its texts: a source or a bundle, and those that are named beside it
+unfoldable pub run_output : RunPlan → Given → PrintOutcome
+run_output run given =
+    let parts = parts_of given.source in
+    print_outcome (options_of run) (part_of (option_map string_bytes run.part)) (assembly parts.source) (units_asked run parts.deck given)
+
+-- and which map it draws
+abbrev pub DrawnProgram : PrintOptions → List ℕ → Result ProgramValue AsmFault → Result UnitsState DeckFault → List ℕ → Type 0
+DrawnProgram options part (Err fault) units map = map ≡ []
+DrawnProgram options part (Ok program) (Err fault) map = map ≡ []
+DrawnProgram options part (Ok program) (Ok units) map = DrawnRun options part program units map
+
+unfoldable pub run_draws : RunPlan → Given → List ℕ → Type 0
+run_draws run given map =
+    let parts = parts_of given.source in
+    DrawnProgram (options_of run) (part_of (option_map string_bytes run.part)) (assembly parts.source) (units_asked run parts.deck given) map
+
+-- What a call answers, writes and keeps is the outcome. Where memory is refused, or a write fails, a beginning of its bytes has been written;
+-- where a read fails, none.
+abbrev pub Prints : PrintOutcome → Result Printed ToolFault → Option (List ℕ) → Option (List ℕ) → Type 0
+Prints outcome (Ok printed) old new = (outcome ≡ Answered (bytes_of outcome) printed.answer printed.deck.items) × Appends old new (bytes_of outcome)
+Prints outcome (Err (faults.Deck fault)) old new = (outcome ≡ UnitsRefused fault) × Keeps old new
+Prints outcome (Err faults.Long) old new = ⊥
+Prints outcome (Err faults.Memory) old new = AppendsFront old new (bytes_of outcome)
+Prints outcome (Err faults.Write) old new = AppendsFront old new (bytes_of outcome)
+Prints outcome (Err faults.Read) old new = Keeps old new
+
+-- an answer, without the file of its fault
+abbrev pub without_file : {A : Type 0} → Result A RunFault → Result A ToolFault
+without_file (Ok answer) = Ok answer
+without_file (Err broken) = Err broken.fault
+
+-- a file is that of a text of this name, of which so many reads have failed
+abbrev pub IsUnread : Option (List ℕ) → ℕ → List ℕ → Type 0
+IsUnread name failures file = (name ≡ Some file) × (failures ≢ 0)
