@@ -220,14 +220,6 @@ const CHECK_ARGUMENTS: [Argument<'static>; 2] = [
     },
 ];
 
-/// The version of the tool, which the package has too.
-pub(crate) const VERSION: &str = "0.1.0";
-
-/// The version, and the logic of the toolchain that proves the program and builds it.
-pub(crate) const LONG_VERSION: &str = "\
-0.1.0
-toolchain Rattle, logic dac8208d650f15bf";
-
 pub(crate) const ABOUT: &str =
     "Knuth's MIX computer, its assembler MIXAL, and a debugger that runs backwards";
 

@@ -6,6 +6,7 @@ mod fault;
 mod found;
 mod program;
 mod vain;
+mod version;
 mod words;
 
 pub use fault::{FAILED, LineFault, line_status};

@@ -5,7 +5,8 @@ ghost use Rattle.clap.specs.Walk.{is_empty};
 ghost use Rattle.clap.specs.Words.{app_of, rule_of, with_subcommand};
 ghost use Rattle.mix_cli.specs.Program.{app_with, argument_of, bare_app, command_named, commands, mixrev, rule_by, rules_of};
 
-use crate::commands::{ABOUT, COMMANDS, LONG_VERSION, MORE, VERSION};
+use crate::commands::{ABOUT, COMMANDS, MORE};
+use crate::version::{LONG_VERSION, VERSION};
 use clap::builder::ValueParser;
 use clap::{Arg, ArgAction, Command};
 use std::alloc::{AllocError, Global};

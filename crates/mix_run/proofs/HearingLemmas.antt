@@ -97,43 +97,34 @@ module _ {d f : Option (List Saved)} (m now : Moment) (talker : Talker) (line : 
     (session : now.session ≡ after_lines m.session (meant m.session talker m.recall line)) (recall : now.recall ≡ recalled m.session talker m.recall line)
     (origin : now.origin ≡ m.origin) (written : Appends a b (replies m.session (meant m.session talker m.recall line)).bytes)
     (saved : f ≡ noted d (saves_of m.origin talker m.recall line)) where
-  abbrev s : SessionState
-  s = m.session
-
-  abbrev r : RecallState
-  r = m.recall
-
-  abbrev o : OriginValue
-  o = m.origin
-
-  pub Answered-one : (told : Told) → is_quit talker line ≡ false → told ≡ (replies s (meant s talker r line)).told
+  pub Answered-one : (told : Told) → is_quit talker line ≡ false → told ≡ (replies m.session (meant m.session talker m.recall line)).told
       → Answered (in_session m talker (line ∷ [])) now told false d f a b
   Answered-one told quit is =
-      let all : asked s talker r (line ∷ []) ≡ meant s talker r line = rw quit (append-nil (meant s talker r line)) in
-      let later : recalled_all s talker r (line ∷ []) ≡ recalled s talker r line = rw quit refl in
+      let all : asked m.session talker m.recall (line ∷ []) ≡ meant m.session talker m.recall line = rw quit (append-nil (meant m.session talker m.recall line)) in
+      let later : recalled_all m.session talker m.recall (line ∷ []) ≡ recalled m.session talker m.recall line = rw quit refl in
       let still : is_over talker (line ∷ []) ≡ false = rw quit refl in
-      let files : saves o s talker r (line ∷ []) ≡ saves_of o talker r line = rw quit (append-nil (saves_of o talker r line)) in
+      let files : saves m.origin m.session talker m.recall (line ∷ []) ≡ saves_of m.origin talker m.recall line = rw quit (append-nil (saves_of m.origin talker m.recall line)) in
       record {
-        moment = same-moment _ now (session ∙ ap (after_lines s) (sym all)) (recall ∙ sym later) origin;
-        told = is ∙ ap (λ l. (replies s l).told) (sym all);
+        moment = same-moment _ now (session ∙ ap (after_lines m.session) (sym all)) (recall ∙ sym later) origin;
+        told = is ∙ ap (λ l. (replies m.session l).told) (sym all);
         over = sym still;
-        written = Appends-same a b _ _ (ap (λ l. (replies s l).bytes) (sym all)) written;
+        written = Appends-same a b _ _ (ap (λ l. (replies m.session l).bytes) (sym all)) written;
         saved = saved ∙ ap (noted d) (sym files);
       }
 
   pub Answered-quit : is_quit talker line ≡ true → Answered (in_session m talker (line ∷ [])) now Accepted true d f a b
   Answered-quit quit =
-      let none : asked s talker r (line ∷ []) ≡ [] = rw quit refl in
-      let later : recalled_all s talker r (line ∷ []) ≡ r = rw quit refl in
+      let none : asked m.session talker m.recall (line ∷ []) ≡ [] = rw quit refl in
+      let later : recalled_all m.session talker m.recall (line ∷ []) ≡ m.recall = rw quit refl in
       let ended : is_over talker (line ∷ []) ≡ true = rw quit refl in
-      let files : saves o s talker r (line ∷ []) ≡ [] = rw quit refl in
-      let said = quit-said s talker r line quit in
+      let files : saves m.origin m.session talker m.recall (line ∷ []) ≡ [] = rw quit refl in
+      let said = quit-said m.session talker m.recall line quit in
       record {
-        moment = same-moment _ now (session ∙ ap (after_lines s) (said ∙ sym none)) (recall ∙ quit-recalled s talker r line quit ∙ sym later) origin;
-        told = ap (λ l. (replies s l).told) (sym none);
+        moment = same-moment _ now (session ∙ ap (after_lines m.session) (said ∙ sym none)) (recall ∙ quit-recalled m.session talker m.recall line quit ∙ sym later) origin;
+        told = ap (λ l. (replies m.session l).told) (sym none);
         over = sym ended;
-        written = Appends-same a b _ _ (ap (λ l. (replies s l).bytes) (said ∙ sym none)) written;
-        saved = saved ∙ ap (noted d) (quit-saves o talker r line quit ∙ sym files);
+        written = Appends-same a b _ _ (ap (λ l. (replies m.session l).bytes) (said ∙ sym none)) written;
+        saved = saved ∙ ap (noted d) (quit-saves m.origin talker m.recall line quit ∙ sym files);
       }
 
 -- what a line that stands for itself asks for

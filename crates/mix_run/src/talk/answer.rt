@@ -118,11 +118,7 @@ fn answer_person<O: Opener, W: Out, E: Out>(
     ensures write { CountsFailure (result ≡ Err ToolFault.Write) (W.failed out.old) (W.failed out.new) }
     ensures only { IfErr result IsMemoryOrWrite }
 {
-    let Moment {
-        session,
-        recall,
-        origin,
-    } = moment;
+    let (session, recall) = (&mut moment.session, &mut moment.recall);
     let typed = recall.line(session, line)?;
     match kind_of(line) {
         Line::Quit => return Ok(None),
@@ -131,12 +127,12 @@ fn answer_person<O: Opener, W: Out, E: Out>(
             return Ok(Some(told));
         }
         Line::Help => help(&typed, errors),
-        Line::Listing => list(recall, session, origin.source(), &typed, errors)?,
+        Line::Listing => list(recall, session, moment.origin.source(), &typed, errors)?,
         Line::Watch => recall.watch(session, &typed, errors)?,
         Line::Delete => recall.delete(),
         Line::Display => recall.display(session, &typed, errors)?,
         Line::Undisplay => recall.undisplay(),
-        Line::Save => recall.save(origin, line, files, errors)?,
+        Line::Save => recall.save(&moment.origin, line, files, errors)?,
         Line::Source => refuse_in_file("source", errors),
         Line::Reload => refuse_in_file("reload", errors),
     }

@@ -21,7 +21,7 @@ pub(crate) struct Moment<'n> {
 }
 
 impl<'n> Moment<'n> {
-    /// A talk begins with the machine that the program of a source loads, with the units of a deck, and nothing is recalled.
+    /// A talk begins with the machine that its program loads, and nothing is recalled.
     pub(crate) fn begin(
         alloc: Global,
         name: &'n str,

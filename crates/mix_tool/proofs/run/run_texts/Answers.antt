@@ -9,13 +9,13 @@ use Rattle.mix_tool.proofs.run.run_texts.Goals as goal
 
 pub returns-clause-done : goal.returns-clause-done
 returns-clause-done g c given holds =
-    let files = file-among c.args.plan.now c.print_texts-ran.result c.parted.result.1.now (rw c.as_str.ensures.value at c.parted.ensures.source) c.parted.ensures.file
+    let files = file-among c.args.plan.now c.print_texts-ran.result c.parted-printed.result.1.now (rw c.as_str.ensures.value at c.parted-printed.ensures.source) c.parted-printed.ensures.file
     c.print_texts-ran.ensures.file in (
-      c.parted.result.0,
+      c.parted-printed.result.0,
       _,
       _,
       _,
-      rw c.parted.ensures.ran (c.print_texts-ran.ensures.output given holds),
+      rw c.parted-printed.ensures.ran (c.print_texts-ran.ensures.output given holds),
       files,
       c.print_status-status.ensures.told,
       rw c.print_status-status.ensures.status at c.save_files.ensures.told,
@@ -27,8 +27,9 @@ returns-clause-created g c =
 
 pub returns-clause-saved : goal.returns-clause-saved
 returns-clause-saved g c given holds =
-    saves-run (run_output c.args.plan.now given) (run_draws c.args.plan.now given) _ c.parted.result.0 _ _ _ _ _ _ _ _
-    (rw c.parted.ensures.ran (c.print_texts-ran.ensures.output given holds)) (rw c.parted.ensures.ran (c.print_texts-ran.ensures.map given holds))
+    let prints = rw (← c.parted-printed.ensures.ran) at (c.print_texts-ran.ensures.output given holds) in
+    let drawn = rw (← c.parted-printed.ensures.ran) at (c.print_texts-ran.ensures.map given holds) in
+    saves-run (run_output c.args.plan.now given) (run_draws c.args.plan.now given) _ c.parted-printed.result.0 _ _ _ _ _ _ _ _ prints drawn
     c.print_status-status.ensures.status c.save_files.ensures.status c.save_files.ensures.saved
 
 pub returns-clause-range : goal.returns-clause-range
@@ -37,5 +38,5 @@ returns-clause-range g c = c.save_files.ensures.range (print_range _ _ c.print_s
 pub returns-clause-well : goal.returns-clause-well
 returns-clause-well g c well =
     let same = c.save_files.ensures.well well in
-    let status = c.print_status-status.ensures.status ∙ ap (λ run. status_of_print (answer_of run)) c.parted.ensures.ran in
+    let status = c.print_status-status.ensures.status ∙ ap (λ run. status_of_print (answer_of run)) c.parted-printed.ensures.ran in
     (c.print_texts-ran.ensures.write.1 (λ failed. well (same.0 ∙ status ∙ ap (λ run. status_of_print (answer_of run)) failed)), same.1)

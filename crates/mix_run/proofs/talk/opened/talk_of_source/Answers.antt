@@ -58,6 +58,11 @@ returns-in-Err-clause-long_line g c e d t hd ht counted =
     let same : c.in-Err.fault ≡ Long = cc in
     absurd (not-long _ c.in-Err.fault (c.in-Err.ensures.units d hd) same)
 
+pub returns-in-Err-begin-clause-talks : goal.returns-in-Err-begin-clause-talks
+returns-in-Err-begin-clause-talks g c all s d t hs hd ht known =
+    let origin = origin_given c.args.name.now c.args.given s d in
+    TalksWith-unread all origin (assembly origin.source) (deck_of origin.deck) c.args.streams.now.talker t reads.Memory _ _ ht
+
 pub returns-clause-talks : goal.returns-clause-talks
 returns-clause-talks g c all s d t hs hd ht known =
     let read = c.deref.ensures.value ∙ (c.in_ok-text.ensures.whole s hs).0 in
@@ -71,13 +76,29 @@ pub returns-clause-read : goal.returns-clause-read
 returns-clause-read g c =
     counts-after _ _ _ _ _ _ _ (c.in_ok-text.ensures.failed.1 (λ e. e)) (c.in-Ok-given_deck.ensures.read.1 (λ e. cc)) c.talk_with.ensures.read
 
+pub returns-clause-long : goal.returns-clause-long
+returns-clause-long g c e d t hd ht = c.talk_with.ensures.long e t ht
+
+pub returns-clause-long_line : goal.returns-clause-long_line
+returns-clause-long_line g c e d t hd ht counted = c.talk_with.ensures.long_line e t ht counted
+
 pub returns-in-Err-clause-bad_source : goal.returns-in-Err-clause-bad_source
 returns-in-Err-clause-bad_source g c s f hs refused =
+    absurd (parts-taken s _ _ _ f (c.deref.ensures.value ∙ (c.in_ok-text.ensures.whole s hs).0) c.parts_of-parts.ensures.source c.in-Ok.ensures.ok refused)
+
+pub returns-in-Err-begin-clause-bad_source : goal.returns-in-Err-begin-clause-bad_source
+returns-in-Err-begin-clause-bad_source g c s f hs refused =
     absurd (parts-taken s _ _ _ f (c.deref.ensures.value ∙ (c.in_ok-text.ensures.whole s hs).0) c.parts_of-parts.ensures.source c.in-Ok.ensures.ok refused)
 
 pub returns-clause-bad_source : goal.returns-clause-bad_source
 returns-clause-bad_source g c s f hs refused =
     absurd (parts-taken s _ _ _ f (c.deref.ensures.value ∙ (c.in_ok-text.ensures.whole s hs).0) c.parts_of-parts.ensures.source c.in-Ok.ensures.ok refused)
+
+pub returns-in-Err-begin-clause-bad_deck : goal.returns-in-Err-begin-clause-bad_deck
+returns-in-Err-begin-clause-bad_deck g c s d f hs hd refused =
+    let used = deck-used c.args.given s _ _ d (c.deref.ensures.value ∙ (c.in_ok-text.ensures.whole s hs).0) c.parts_of-parts.ensures.deck in
+    let same = ap deck_of used ∙ refused in
+    let made = c.in-Ok-given_deck.ensures.units d hd in cc
 
 pub returns-clause-bad_deck : goal.returns-clause-bad_deck
 returns-clause-bad_deck g c s d f hs hd refused =
@@ -87,6 +108,9 @@ returns-clause-bad_deck g c s d f hs hd refused =
 
 pub returns-in-Err-Fault-clause-input_in_turn : goal.returns-in-Err-Fault-clause-input_in_turn
 returns-in-Err-Fault-clause-input_in_turn g c d hd asked = inl c.refuse_and_tell.ensures.input
+
+pub returns-in-Err-begin-clause-input_in_turn : goal.returns-in-Err-begin-clause-input_in_turn
+returns-in-Err-begin-clause-input_in_turn g c d hd asked = inr (c.in-Ok-given_deck.ensures.whole d hd asked)
 
 pub returns-clause-input_in_turn : goal.returns-clause-input_in_turn
 returns-clause-input_in_turn g c d hd asked = inr (c.in-Ok-given_deck.ensures.whole d hd asked)
