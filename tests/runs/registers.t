@@ -58,7 +58,7 @@ A table has its own rows alone.
 
 A source that is refused leaves none.
 
-  $ printf ' ENTA X\n END 0\n' >bad.mixal
+  $ printf ' FOO\n END 0\n' >bad.mixal
   $ mixrev run bad.mixal --registers </dev/null | grep -c '^A '
   0
   [1]
