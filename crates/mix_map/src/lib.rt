@@ -28,7 +28,7 @@ pub fn map_of(
     columns: u16,
     kept: usize,
 ) -> Result<RunMap, AllocError>
-    ensures { (count : ℕ → ℕ → ℕ) → Counts columns counts.now count → IfOk result (λ map. map_seen map ≡ map_by columns kept count) }
+    ensures { IfOk result (λ map. (count : ℕ → ℕ → ℕ) → Counts columns counts.now count → map_seen map ≡ map_by columns kept count) }
 {
     let mut rows = executed(alloc, counts, columns, CELLS)?;
     let (found, most) = (rows.len(), most_in(&rows));
