@@ -33,16 +33,19 @@ impl World {
     {
         match plan {
             Plan::Value(value) => self.write(value, kept),
-            Plan::Step(writes, loc, clock) => match writes {
-                Writes::Register(r, word) => self.move_with(r, word, loc, clock, from, kept),
-                Writes::Cell(place, word) => self.store(place, word, loc, clock, from, kept),
-                Writes::Nothing => self.move_to(loc, clock, from, kept),
-                writes => {
-                    self.write_in(writes, kept)?;
-                    let now = self.anchor();
-                    self.move_to(loc, clock, now, kept);
+            Plan::Step(writes, loc, clock) => {
+                let to = Anchor { loc, clock };
+                match writes {
+                    Writes::Register(r, word) => self.move_with(r, word, to, from, kept),
+                    Writes::Cell(place, word) => self.store(place, word, to, from, kept),
+                    Writes::Nothing => self.move_to(to, from, kept),
+                    writes => {
+                        self.write_in(writes, kept)?;
+                        let now = self.anchor();
+                        self.move_to(to, now, kept);
+                    }
                 }
-            },
+            }
         }
         Ok(())
     }

@@ -73,19 +73,19 @@ impl World {
 
     /// Sets the location and the clock, and keeps those before, which are given.
     #[inline(always)]
-    pub(crate) fn move_to(&mut self, loc: u16, clock: u64, from: Anchor, kept: &mut Kept<Old>)
+    pub(crate) fn move_to(&mut self, to: Anchor, from: Anchor, kept: &mut Kept<Old>)
         requires from { from.loc ≡ self.old.loc }
         requires when { from.clock ≡ self.old.clock }
-        requires loc { IsTrue (fits self.old (Old.Loc loc)) }
-        requires clock { IsTrue (fits self.old (Old.Clock clock)) }
-        requires room { HasRoom kept.old (set (Old.Loc loc) ∷ set (Old.Clock clock) ∷ []) }
-        ensures { Wrote (set (Old.Loc loc) ∷ set (Old.Clock clock) ∷ []) self.old self.new kept.old kept.new }
+        requires loc { IsTrue (fits self.old (Old.Loc to.loc)) }
+        requires clock { IsTrue (fits self.old (Old.Clock to.clock)) }
+        requires room { HasRoom kept.old (set (Old.Loc to.loc) ∷ set (Old.Clock to.clock) ∷ []) }
+        ensures { Wrote (set (Old.Loc to.loc) ∷ set (Old.Clock to.clock) ∷ []) self.old self.new kept.old kept.new }
     {
         // (the proof knows the ranges of the machine where a field of it is named)
         let _ = &self.loc;
-        kept.append_reserved(&Moved::of(from, Anchor { loc, clock }));
-        self.loc = loc;
-        self.clock = clock;
+        kept.append_reserved(&Moved::of(from, to));
+        self.loc = to.loc;
+        self.clock = to.clock;
     }
 
     /// Sets a register, the location and the clock, and keeps those before, of which the last two are given.
@@ -94,24 +94,23 @@ impl World {
         &mut self,
         r: Reg,
         word: Word,
-        loc: u16,
-        clock: u64,
+        to: Anchor,
         from: Anchor,
         kept: &mut Kept<Old>,
     )
         requires from { from.loc ≡ self.old.loc }
         requires when { from.clock ≡ self.old.clock }
         requires fits { IsTrue (fits self.old (Old.Reg r word)) }
-        requires loc { IsTrue (fits self.old (Old.Loc loc)) }
-        requires clock { IsTrue (fits self.old (Old.Clock clock)) }
-        requires room { HasRoom kept.old (set (Old.Reg r word) ∷ set (Old.Loc loc) ∷ set (Old.Clock clock) ∷ []) }
-        ensures { Wrote (set (Old.Reg r word) ∷ set (Old.Loc loc) ∷ set (Old.Clock clock) ∷ []) self.old self.new kept.old kept.new }
+        requires loc { IsTrue (fits self.old (Old.Loc to.loc)) }
+        requires clock { IsTrue (fits self.old (Old.Clock to.clock)) }
+        requires room { HasRoom kept.old (set (Old.Reg r word) ∷ set (Old.Loc to.loc) ∷ set (Old.Clock to.clock) ∷ []) }
+        ensures { Wrote (set (Old.Reg r word) ∷ set (Old.Loc to.loc) ∷ set (Old.Clock to.clock) ∷ []) self.old self.new kept.old kept.new }
     {
         let held = self.registers.get(r);
-        kept.append_reserved(&MovedWith::of(r, held, from, Anchor { loc, clock }));
+        kept.append_reserved(&MovedWith::of(r, held, from, to));
         self.registers.set(r, word);
-        self.loc = loc;
-        self.clock = clock;
+        self.loc = to.loc;
+        self.clock = to.clock;
     }
 
     /// Sets a cell, the location and the clock, and keeps those before, of which the last two are given.
@@ -120,25 +119,24 @@ impl World {
         &mut self,
         place: Place,
         word: Word,
-        loc: u16,
-        clock: u64,
+        to: Anchor,
         from: Anchor,
         kept: &mut Kept<Old>,
     )
         requires from { from.loc ≡ self.old.loc }
         requires when { from.clock ≡ self.old.clock }
         requires fits { IsTrue (fits self.old (Old.Cell place word)) }
-        requires loc { IsTrue (fits self.old (Old.Loc loc)) }
-        requires clock { IsTrue (fits self.old (Old.Clock clock)) }
-        requires room { HasRoom kept.old (set (Old.Cell place word) ∷ set (Old.Loc loc) ∷ set (Old.Clock clock) ∷ []) }
-        ensures { Wrote (set (Old.Cell place word) ∷ set (Old.Loc loc) ∷ set (Old.Clock clock) ∷ []) self.old self.new kept.old kept.new }
+        requires loc { IsTrue (fits self.old (Old.Loc to.loc)) }
+        requires clock { IsTrue (fits self.old (Old.Clock to.clock)) }
+        requires room { HasRoom kept.old (set (Old.Cell place word) ∷ set (Old.Loc to.loc) ∷ set (Old.Clock to.clock) ∷ []) }
+        ensures { Wrote (set (Old.Cell place word) ∷ set (Old.Loc to.loc) ∷ set (Old.Clock to.clock) ∷ []) self.old self.new kept.old kept.new }
     {
         let at = usize::from(place.number());
         let held = self.cells[at];
-        kept.append_reserved(&Stored::of(place, held, from, Anchor { loc, clock }));
+        kept.append_reserved(&Stored::of(place, held, from, to));
         self.cells[at] = word;
-        self.loc = loc;
-        self.clock = clock;
+        self.loc = to.loc;
+        self.clock = to.clock;
     }
 
     /// Where the machine stands, and when.

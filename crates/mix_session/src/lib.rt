@@ -41,6 +41,7 @@ pub use session::Session;
 pub use show::all::was_used;
 pub use show::conflicts::conflict_text;
 pub use show::differences::Held;
+pub use show::registers_lines;
 pub use show::words::{Characters, Letters, ShortLetters};
 pub use tally::{Tallies, Tally};
 pub use writes::Write;

@@ -88,8 +88,9 @@ fn met_lines(
     }
 }
 
+/// The lines of `show regs`: the registers, the overflow toggle, the comparison indicator, the location and the clock in u (1.3.1).
 #[tactic(auto, unfolding(crate::specs::Show::registers_text))]
-fn registers_lines(alloc: Global, world: &World) -> Result<String, AllocError>
+pub fn registers_lines(alloc: Global, world: &World) -> Result<String, AllocError>
     ensures { IfOk result (λ s. string_bytes s ≡ registers_text world.now) }
 {
     let (registers, flags) = (Registers(world), Flags(world));
