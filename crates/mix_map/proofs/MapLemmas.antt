@@ -1,14 +1,10 @@
--- A map column by column, row by row and place by place.
-use Rattle.std.proofs.Common.{◌≡◌, ◌<◌, ◌≤◌, ◌+◌, ◌-◌, ◌==◌, ◌&&◌, ℕ, zero, suc, Bool, true, false, if◌then◌else◌, List, [], ◌++◌, ⊎_elim, refl, sym, ap, ◌∙◌, arith, append_assoc, flat_map, length, take}
-use Rattle.std.proofs.lemmas.Bool.{and_cases, and_parts, ltb-false, ltb-true}
-use Rattle.std.proofs.lemmas.List.{append-nil}
-use Rattle.std.specs.List.{range_with_len}
+-- The map of what a list counts.
+use Rattle.std.proofs.Common.{◌≡◌, ◌+◌, ◌==◌, ◌&&◌, ℕ, suc, Bool, true, false, if◌then◌else◌, List, ◌++◌, refl, sym, ap, ◌∙◌, arith, append_assoc, length, take}
+use Rattle.std.proofs.lemmas.Bool.{and_parts, ltb-true}
 use Rattle.std.specs.Prelude.{nat_lt}
-use Rattle.mix_map.specs.Map.{Counts, MapValue, boxes_from, count_in, counted, end_from, end_in, executed, map_by, map_counted, most_in, within}
+use Rattle.mix_map.specs.Map.{Counts, MapValue, begin, box_at, box_if, boxes_from, count_in, counted, executed, map_by, map_counted, most_in, row_boxes, within}
 use Rattle.mix_map.specs.declared.parts.MapBox.{MapBox}
 use Rattle.mix_map.specs.declared.parts.MapRow.{MapRow}
-
--- ---- what is counted where there is nothing else is the same map
 
 same-if : (b : Bool) (m n : ℕ) → (b ≡ true → m ≡ n) → (if b then m else 0) ≡ (if b then n else 0)
 same-if true m n same = same refl
@@ -35,43 +31,21 @@ map-made columns kept counts count all rows found most boxes same each many larg
     rw (drawn, first, largest, many, each) refl in
     made ∙ ap (map_counted columns kept) (same-counts columns counts count same)
 
--- ---- one more
+-- one column more: where the columns begin that are as dark as the next one, and the boxes so far
+pub begin-next : (shade : ℕ → ℕ) (c from dark next new : ℕ) → from ≡ begin shade c → dark ≡ shade c → next ≡ shade (c + 1)
+    → new ≡ (if next == dark then from else c + 1) → new ≡ begin shade (c + 1)
+unfolding begin
+begin-next shade c from dark next new f d n e =
+    let more : c + 1 ≡ suc c = omega arith in
+    let here : (if next == dark then from else c + 1) ≡ begin shade (suc c) = rw (n, d, f, more) refl in
+    e ∙ here ∙ sym (ap (begin shade) more)
 
-pub numbers-next : {X : Type 0} (f : ℕ → List X) (at count : ℕ) → at < count →
-    flat_map f (range_with_len at (count - at)) ≡ f at ++ flat_map f (range_with_len (at + 1) (count - (at + 1)))
-numbers-next f at count lt = let more : count - at ≡ suc (count - (at + 1)) = omega arith in rw more refl
-
-pub numbers-none : {X : Type 0} (f : ℕ → List X) (at count : ℕ) → count ≤ at → flat_map f (range_with_len at (count - at)) ≡ []
-numbers-none f at count le = let none : count - at ≡ 0 = omega arith in rw none refl
-
--- what was found so far, what is found next, and what is left then
-pub found-more : {X : Type 0} (found new next left more all : List X) → found ++ left ≡ all → left ≡ next ++ more → new ≡ found ++ next → new ++ more ≡ all
-found-more found new next left more all so_far parts added =
-    ap (λ t. t ++ more) added ∙ append_assoc found next more ∙ ap (λ t. found ++ t) (sym parts) ∙ so_far
-
-pub found-all : {X : Type 0} (found left all : List X) → found ++ left ≡ all → left ≡ [] → found ≡ all
-found-all found left all so_far none = sym (append-nil found) ∙ ap (λ t. found ++ t) (sym none) ∙ so_far
-
--- ---- where a box ends
-
-end-more : (shade : ℕ → ℕ) (dark c n m : ℕ) → n ≡ suc m → (shade c == dark) ≡ true → end_in shade dark c n ≡ end_in shade dark (c + 1) m
-unfolding end_in
-end-more shade dark c n m more like = rw (more, like) refl
-
-pub end-next : (shade : ℕ → ℕ) (columns dark c : ℕ) → (nat_lt c columns && shade c == dark) ≡ true
-    → (c < columns) × (end_from shade columns dark c ≡ end_from shade columns dark (c + 1))
-end-next shade columns dark c like =
-    let both = and_parts (nat_lt c columns) (shade c == dark) like in
-    let below : c < columns = ltb-true c columns both.0 in
-    (below, end-more shade dark c (columns - c) (columns - (c + 1)) (omega (arith, below)) both.1)
-
-pub end-here : (shade : ℕ → ℕ) (columns dark c : ℕ) → (nat_lt c columns && shade c == dark) ≡ false → end_from shade columns dark c ≡ c
-unfolding end_in
-end-here shade columns dark c other = ⊎_elim none (go (columns - c)) (and_cases (nat_lt c columns) (shade c == dark) other)
-  where
-    none : nat_lt c columns ≡ false → end_from shade columns dark c ≡ c
-    none over = let left : columns - c ≡ 0 = omega (arith, ltb-false c columns over) in rw left refl
-
-    go : (n : ℕ) → (shade c == dark) ≡ false → end_in shade dark c n ≡ c
-    go zero e = refl
-    go (suc n) e = rw e refl
+pub boxes-next : (shade : ℕ → ℕ) (r c from dark next : ℕ) (old now new : List MapBox) → from ≡ begin shade c → dark ≡ shade c → next ≡ shade (c + 1)
+    → now ≡ old ++ row_boxes shade r c → new ≡ now ++ box_if (record { row = r; from = from; to = c + 1; dark = dark }) next
+    → new ≡ old ++ row_boxes shade r (c + 1)
+unfolding row_boxes
+boxes-next shade r c from dark next old now new f d n so_far added =
+    let more : c + 1 ≡ suc c = omega arith in
+    let here : box_if (record { row = r; from = from; to = c + 1; dark = dark }) next ≡ box_at shade r c = rw (n, d, f) refl in
+    added ∙ ap (λ xs. xs ++ box_if (record { row = r; from = from; to = c + 1; dark = dark }) next) so_far
+    ∙ append_assoc old (row_boxes shade r c) _ ∙ ap (λ xs. old ++ (row_boxes shade r c ++ xs)) here ∙ ap (λ k. old ++ row_boxes shade r k) (sym more)

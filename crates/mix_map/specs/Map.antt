@@ -1,11 +1,11 @@
 -- The map of a run: its rows, and the boxes in which they are drawn, by how often each instruction was executed in each column of changes.
-use Rattle.std.specs.Prelude.{◌≡◌, ℕ, zero, suc, ◌+◌, ◌-◌, ◌*◌, ◌/◌, ◌<◌, ◌==◌, ◌&&◌, ◌||◌, Bool, nat_lt, List, [], ◌∷◌, ◌++◌, length, take, flat_map, get_or, if◌then◌else◌, max, min}
+use Rattle.std.specs.Prelude.{◌≡◌, ℕ, zero, suc, ◌+◌, ◌-◌, ◌*◌, ◌/◌, ◌<◌, ◌==◌, ◌&&◌, ◌||◌, nat_lt, List, [], ◌∷◌, ◌++◌, length, take, get_or, if◌then◌else◌, max, min}
 use Rattle.std.specs.Int.{leading_zeros}
 use Rattle.std.specs.Int.Width.{w64}
-use Rattle.std.specs.List.{range_with_len}
 use Rattle.mix_map.specs.declared.parts.MapBox.{MapBox}
 use Rattle.mix_map.specs.declared.parts.MapRow.{MapRow}
 use Rattle.mix_map.specs.declared.parts.RunMap.{RunMap}
+use Rattle.mix_map.specs.declared.parts.Shades.{Shades}
 
 -- a column for each of so many changes, and at most 240
 abbrev pub columns_of : ℕ → ℕ
@@ -45,15 +45,13 @@ abbrev pub row_of : (ℕ → ℕ → ℕ) → ℕ → ℕ → MapRow
 row_of count p zero = record { place = p; times = 0; most = 0; from = 0; to = 0 }
 row_of count p (suc n) = with_column (row_of count p n) n (count n p)
 
--- of the first locations those whose instruction was executed
+-- of the first n locations those whose instruction was executed
 abbrev pub row_if : MapRow → List MapRow
 row_if row = if row.times == 0 then [] else row ∷ []
 
-abbrev pub row_at : (ℕ → ℕ → ℕ) → ℕ → ℕ → List MapRow
-row_at count columns p = row_if (row_of count p columns)
-
 unfoldable pub executed : (ℕ → ℕ → ℕ) → ℕ → ℕ → List MapRow
-executed count columns places = flat_map (row_at count columns) (range_with_len 0 places)
+executed count columns zero = []
+executed count columns (suc n) = executed count columns n ++ row_if (row_of count n columns)
 
 -- the most that an instruction of a row was executed in a column
 abbrev pub most_in : ℕ → List MapRow → ℕ
@@ -73,31 +71,31 @@ dark_of most count = if count == 0 then 0 else 3 + 7 * digits_of count / max (di
 abbrev pub shade_of : (ℕ → ℕ → ℕ) → ℕ → ℕ → ℕ → ℕ
 shade_of count most p c = dark_of most (count c p)
 
--- the first column that is not as dark, of n from c on, or the one after these
-unfoldable pub end_in : (ℕ → ℕ) → ℕ → ℕ → ℕ → ℕ
-end_in shade dark c zero = c
-end_in shade dark c (suc n) = if shade c == dark then end_in shade dark (c + 1) n else c
+abbrev pub shade : Shades → ℕ → ℕ
+shade row = shade_of (counted row.columns row.counts.now) row.most row.place
 
-abbrev pub end_from : (ℕ → ℕ) → ℕ → ℕ → ℕ → ℕ
-end_from shade columns dark c = end_in shade dark c (columns - c)
+-- the first of the columns that are as dark as this one, and up to it follow each other
+unfoldable pub begin : (ℕ → ℕ) → ℕ → ℕ
+begin shade zero = 0
+begin shade (suc c) = if shade (suc c) == shade c then begin shade c else suc c
 
--- whether the column before is as dark
-abbrev pub is_begun : (ℕ → ℕ) → ℕ → Bool
-is_begun shade c = nat_lt 0 c && shade (c - 1) == shade c
+-- a box ends with a column that is dark, and as dark as which the next one is not
+abbrev pub box_if : MapBox → ℕ → List MapBox
+box_if box next = if box.dark == 0 || next == box.dark then [] else box ∷ []
 
--- the box that begins at a column, if one does
-abbrev pub box_at : (ℕ → ℕ) → ℕ → ℕ → ℕ → List MapBox
-box_at shade columns r c =
-    if shade c == 0 || is_begun shade c then [] else record { row = r; from = c; to = end_from shade columns (shade c) c; dark = shade c } ∷ []
+abbrev pub box_at : (ℕ → ℕ) → ℕ → ℕ → List MapBox
+box_at shade r c = box_if (record { row = r; from = begin shade c; to = c + 1; dark = shade c }) (shade (c + 1))
 
+-- of the first n columns of a row; behind the last one there is nothing
 unfoldable pub row_boxes : (ℕ → ℕ) → ℕ → ℕ → List MapBox
-row_boxes shade columns r = flat_map (box_at shade columns r) (range_with_len 0 columns)
+row_boxes shade r zero = []
+row_boxes shade r (suc n) = row_boxes shade r n ++ box_at shade r n
 
 -- of rows, of which the first has a number
 abbrev pub boxes_from : (ℕ → ℕ → ℕ) → ℕ → ℕ → ℕ → List MapRow → List MapBox
 boxes_from count columns most r [] = []
 boxes_from count columns most r (row ∷ rows) =
-    row_boxes (shade_of count most row.place) columns r ++ boxes_from count columns most (r + 1) rows
+    row_boxes (shade_of count most row.place) r columns ++ boxes_from count columns most (r + 1) rows
 
 -- ---- the map
 

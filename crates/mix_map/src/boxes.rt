@@ -1,7 +1,6 @@
 //! The boxes of a map: of each row the columns that follow each other in which it is equally dark.
-ghost use Rattle.std.specs.Prelude.{◌≡◌, ◌++◌, ◌<◌, ◌≤◌, ◌==◌, ◌&&◌, OnOk, nat_lt};
-ghost use Rattle.mix_map.specs.Map.{boxes_from, counted, dark_of, digits_of, end_from};
-ghost use Rattle.mix_map.specs.Shades.{box_at, is_begun, row_boxes, shade};
+ghost use Rattle.std.specs.Prelude.{◌≡◌, ◌++◌, ◌<◌, ◌≤◌, ◌==◌, OnOk, if◌then◌else◌};
+ghost use Rattle.mix_map.specs.Map.{box_if, boxes_from, counted, dark_of, digits_of, row_boxes, shade};
 
 use crate::parts::{MapBox, MapRow, Shades};
 use crate::rows::count_at;
@@ -36,64 +35,44 @@ fn shade(row: &Shades, column: u16) -> u16
     )
 }
 
-// Whether a row is as dark in a column, if there is one of this number.
-fn is_like(row: &Shades, dark: u16, column: u16) -> bool
-    ensures { result ≡ (nat_lt column row.now.columns && shade row.now column == dark) }
+// Where the columns begin that are as dark as the next one.
+fn begin(from: u16, column: u16, is_like: bool) -> u16
+    ensures { result ≡ (if is_like then from else column) }
 {
-    column < row.columns && shade(row, column) == dark
+    if is_like { from } else { column }
 }
 
-// The first column that is not as dark, from one on.
-fn end_from(row: &Shades, dark: u16, from: u16) -> u16
-    requires { from ≤ row.now.columns }
-    ensures { result ≡ end_from (shade row.now) row.now.columns dark from }
+// Adds a box, if the next column is not as dark.
+fn add_box(drawn: MapBox, next: u16, boxes: &mut Vec<MapBox>) -> Result<(), AllocError>
+    ensures { OnOk result (boxes.new.items ≡ boxes.old.items ++ box_if drawn next) }
 {
-    let mut column = from;
-    while is_like(row, dark, column) {
-        column += 1;
+    if drawn.dark != 0 && next != drawn.dark {
+        boxes.push(drawn)?;
     }
-    column
-}
-
-// Whether the column before is as dark.
-fn is_begun(row: &Shades, column: u16) -> bool
-    ensures { result ≡ is_begun row.now column }
-{
-    column > 0 && shade(row, column - 1) == shade(row, column)
-}
-
-// Adds the box that begins at a column, if one does.
-fn add_box(
-    row: &Shades,
-    number: usize,
-    column: u16,
-    boxes: &mut Vec<MapBox>,
-) -> Result<(), AllocError>
-    requires { column < row.now.columns }
-    ensures { OnOk result (boxes.new.items ≡ boxes.old.items ++ box_at row.now number column) }
-{
-    let dark = shade(row, column);
-    if dark == 0 || is_begun(row, column) {
-        return Ok(());
-    }
-    boxes.push(MapBox {
-        row: number,
-        from: column,
-        to: end_from(row, dark, column),
-        dark,
-    })?;
     Ok(())
 }
 
 // Adds those of a row.
-#[tactic(auto, unfolding(crate::specs::Map::row_boxes))]
+#[tactic(auto, unfolding(crate::specs::Map::begin, crate::specs::Map::row_boxes))]
 fn add_row(row: &Shades, number: usize, boxes: &mut Vec<MapBox>) -> Result<(), AllocError>
-    ensures { OnOk result (boxes.new.items ≡ boxes.old.items ++ row_boxes row.now number) }
+    ensures { OnOk result (boxes.new.items ≡ boxes.old.items ++ row_boxes (shade row.now) number row.now.columns) }
 {
-    let mut column = 0;
+    let (mut column, mut from) = (0, 0);
     while column < row.columns {
-        add_box(row, number, column, boxes)?;
-        column += 1;
+        let (dark, to) = (shade(row, column), column + 1);
+        let next = shade(row, to);
+        add_box(
+            MapBox {
+                row: number,
+                from,
+                to,
+                dark,
+            },
+            next,
+            boxes,
+        )?;
+        from = begin(from, to, next == dark);
+        column = to;
     }
     Ok(())
 }

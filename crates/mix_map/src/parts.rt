@@ -29,6 +29,7 @@ pub struct MapBox {
 }
 
 /// A map.
+#[derive(Drop)]
 pub struct RunMap {
     /// How many instructions were executed.
     pub found: usize,
