@@ -11,7 +11,7 @@ use Rattle.mix_machine.specs.units.Units.{UnitsState}
 use Rattle.mix_machine.specs.declared.units.deck_fault.DeckFault.{DeckFault}
 use Rattle.mix_session.specs.Change.{world_at}
 use Rattle.mix_session.specs.Command.{after}
-use Rattle.mix_session.specs.Path.{IsPath}
+use Rattle.mix_session.specs.Path.{IsPath, path_at}
 use Rattle.mix_session.specs.Session.{SessionState, opened}
 use Rattle.mix_session.specs.Timeline.{Timeline}
 use Rattle.mix_session.specs.declared.fault.Refusal.{Refusal}
@@ -19,7 +19,8 @@ use Rattle.mix_session.specs.declared.path.Span.{Span}
 use Rattle.mix_run.specs.Counted.{counted_steps}
 use Rattle.mix_run.specs.Drawn.{DrawnIf, DrawnProgram, DrawnRun, Draws}
 use Rattle.mix_run.specs.Keep.{kept_if}
-use Rattle.mix_run.specs.Map.{IsMap, map_text, span_of}
+use Rattle.mix_run.specs.Map.{IsMap, map_of_run, map_text, span_of}
+use Rattle.mix_map.specs.Map.{Counts, MapValue, map_by}
 use Rattle.mix_run.specs.Print.{Run, counted, run_of}
 use Rattle.mix_run.specs.PrintOutput.{Leaves, PrintOutcome, Prints, answered, came_to, counted_outcome, counts_asked, counts_in, outcome_of_run, parts_of, printed_outcome, units_asked}
 use Rattle.mix_run.specs.StepTable.{part_named, run_told, step_table, table_of}
@@ -41,14 +42,18 @@ use Rattle.mix_run.proofs.PrintOutputLemmas.{parts-read}
 use Rattle.mix_run.proofs.Written.{Appends-nothing}
 
 -- the map of a path
-pub drawn-path : (program p : ProgramValue) (t : Timeline) (counts slice none new : List ℕ) (total : ℕ) (span : Span)
+pub drawn-path : (program p : ProgramValue) (t : Timeline) (counts slice none new : List ℕ) (total : ℕ) (span : Span) (map : MapValue)
     → total ≡ length t.changes → span ≡ span_of total → IsPath t span counts → p ≡ program → slice ≡ counts
-    → none ≡ [] → new ≡ none ++ map_text p total slice → IsMap program t new
-drawn-path program p t counts slice none new total span all columns path same same_counts empty added =
-    let here : new ≡ map_text program total counts = added ∙ ap (λ (xs : List ℕ). xs ++ map_text p total slice) empty
-    ∙ ap (λ (q : ProgramValue). map_text q total slice) same ∙ ap (λ (cs : List ℕ). map_text program total cs) same_counts in
-    let whole : IsPath t (span_of (length t.changes)) counts = subst (λ (s : Span). IsPath t s counts) (columns ∙ ap span_of all) path in
-    (counts, whole, here ∙ ap (λ (n : ℕ). map_text program n counts) all)
+    → ((count : ℕ → ℕ → ℕ) → Counts span.columns slice count → map ≡ map_by span.columns 120 count)
+    → none ≡ [] → new ≡ none ++ map_text p total map → IsMap program t new
+drawn-path program p t counts slice none new total span map all columns path same same_counts made empty added =
+    let n = length t.changes in
+    let here : span ≡ span_of n = columns ∙ ap span_of all in
+    let whole : IsPath t (span_of n) slice = subst (λ (cs : List ℕ). IsPath t (span_of n) cs) (sym same_counts) (subst (λ (s : Span). IsPath t s counts) here path) in
+    let all_made = subst (λ (s : Span). (count : ℕ → ℕ → ℕ) → Counts s.columns slice count → map ≡ map_by s.columns 120 count) here made in
+    let drawn : map ≡ map_of_run t n = all_made (path_at t (span_of n)) whole in
+    added ∙ ap (λ (xs : List ℕ). xs ++ map_text p total map) empty ∙ ap (λ (q : ProgramValue). map_text q total map) same
+    ∙ ap (λ (k : ℕ). map_text program k map) all ∙ ap (map_text program n) drawn
 
 -- the session that a program is opened in
 pub opened-program : (program : ProgramValue) (units : UnitsState) (s : SessionState) (p : ProgramValue) → s ≡ opened program units → p ≡ s.program → p ≡ program

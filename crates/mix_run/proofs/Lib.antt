@@ -5,7 +5,6 @@ mod DebugLemmas
 mod DrawnLemmas
 mod HearingLemmas
 mod KeepLemmas
-mod MapLemmas
 mod PlainLemmas
 mod PrintLemmas
 mod PrintOutputLemmas

@@ -1,54 +1,24 @@
 //! The map of a run: a picture of its lines against its changes, the darker, the oftener a line was executed, as SVG.
-ghost use Rattle.std.specs.Prelude.{◌≡◌, ◌++◌, ◌<◌, IfOk, OnOk, max};
-ghost use Rattle.mix_run.specs.Map.{columns_of, executed_below, map_text, most_below, picture_text, place_by, sheet_of, span_of, times_below};
+ghost use Rattle.std.specs.Prelude.{◌≡◌, ◌++◌, OnOk};
+ghost use Rattle.mix_map.specs.Map.{map_seen};
+ghost use Rattle.mix_run.specs.Map.{box_drawn, boxes_text, label_if, map_text, span_of, told_row, told_rows};
 
-mod frame;
-mod rows;
-mod shade;
-mod told;
+mod measures;
+mod texts;
 
-use crate::map::frame::{add_head, close_text, height_of};
-use crate::map::rows::add_rows;
-use crate::map::shade::{count_at, count_in};
-use crate::map::told::add_told;
+use crate::map::measures::{bound_of, edge_of, height_of, high_of, is_labelled, row_in, top_of};
+use crate::map::texts::{
+    box_text, close_text, counted_text, head_text, label_text, left_out_text, name_text,
+    place_text, told_text,
+};
+use crate::print::loaded::line_at;
+use mix_map::{MapBox, MapRow, RunMap, columns_of};
 use mix_refused::Memory;
 use mix_session::Span;
-use mix_word::CELLS;
 use mixal_asm::Program;
-use std::alloc::{AllocError, Global};
 
-/// The measures of a map: of how many changes it is, and in how many columns; how many instructions were executed, and how many rows there are of them; how
-/// high a row is; and the most that an instruction was executed in a column.
-#[derive(Clone, Copy)]
-pub(crate) struct Sheet {
-    pub total: usize,
-    pub columns: u16,
-    pub found: usize,
-    pub rows: usize,
-    pub high: u16,
-    pub most: u64,
-}
-
-/// How many rows a map has.
-fn rows_in(sheet: &Sheet) -> usize
-    ensures { result ≡ sheet.now.rows }
-{
-    sheet.rows
-}
-
-/// How many columns it has.
-fn columns_in(sheet: &Sheet) -> u16
-    ensures { result ≡ sheet.now.columns }
-{
-    sheet.columns
-}
-
-// A column for each change, and at most 240.
-fn columns_of(total: usize) -> u16
-    ensures { result ≡ columns_of total }
-{
-    total.max(1).min(240) as u16
-}
+/// The most rows that are drawn.
+pub(crate) const MAX_ROWS: usize = 120;
 
 /// The changes of a map, in its columns.
 pub(crate) fn span_of(total: usize) -> Span
@@ -61,123 +31,113 @@ pub(crate) fn span_of(total: usize) -> Span
     }
 }
 
-/// Appends the map of so many changes, by how often each instruction was executed in each column.
+/// Appends the picture of the map of so many changes.
 #[tactic(auto, unfolding(crate::specs::Map::map_text))]
 pub(crate) fn add_map(
-    alloc: Global,
     program: &Program,
     total: usize,
-    counts: &[u64],
+    map: &RunMap,
     text: &mut Vec<u8>,
 ) -> Result<(), Memory>
-    ensures { OnOk result (text.new.items ≡ text.old.items ++ map_text program.now total counts.now) }
+    ensures { OnOk result (text.new.items ≡ text.old.items ++ map_text program.now total (map_seen map.now)) }
 {
-    let columns = columns_of(total);
-    let places = executed_below(alloc, counts, columns, CELLS)?;
-    let most = most_below(counts, usize::from(columns) * usize::from(CELLS));
-    let sheet = sheet_of(total, places.len(), most);
-    add_picture(alloc, program, &sheet, counts, &places, text)
+    let alloc = *text.allocator();
+    let rows = map.rows.len();
+    let changes = counted_text(alloc, total as u128, "change")?;
+    let left_out = left_out_text(alloc, rows, map.found)?;
+    let height = height_of(rows);
+    let head = head_text(alloc, height, &changes, &left_out)?;
+    text.extend_from_slice(head.as_bytes())?;
+    add_told(program, total, &map.rows, text)?;
+    text.extend_from_slice(b"</desc>\n")?;
+    add_boxes(program, total, &map.rows, &map.boxes, text)?;
+    let close = close_text(alloc, height)?;
+    text.extend_from_slice(close.as_bytes())?;
+    Ok(())
 }
 
-fn sheet_of(total: usize, found: usize, most: u64) -> Sheet
-    ensures is { result ≡ sheet_of total found most }
-    ensures columns { 0 < result.columns }
-    ensures high { 0 < result.high }
+// The text of the rows.
+#[tactic(auto, unfolding(crate::specs::Map::told_rows))]
+fn add_told(
+    program: &Program,
+    total: usize,
+    rows: &[MapRow],
+    text: &mut Vec<u8>,
+) -> Result<(), Memory>
+    ensures { OnOk result (text.new.items ≡ text.old.items ++ told_rows program.now total rows.now) }
 {
-    let rows = found.min(120);
-    Sheet {
-        total,
-        columns: columns_of(total),
-        found,
-        rows,
-        high: (300 / rows.max(1)).min(12).max(3) as u16,
-        most,
-    }
-}
-
-// Of the first places those whose instruction was executed.
-#[tactic(auto, unfolding(crate::specs::Map::executed_below))]
-fn executed_below(
-    alloc: Global,
-    counts: &[u64],
-    columns: u16,
-    count: u16,
-) -> Result<Vec<u16>, AllocError>
-    ensures { IfOk result (λ places. places.items ≡ executed_below counts.now columns count) }
-{
-    let mut places = Vec::new(alloc);
-    let mut at = 0;
-    while at < count {
-        add_place(&mut places, at, times_below(counts, at, columns))?;
-        at += 1;
-    }
-    Ok(places)
-}
-
-// A place, if its instruction was executed.
-fn add_place(places: &mut Vec<u16>, place: u16, times: u128) -> Result<(), AllocError>
-    ensures { OnOk result (places.new.items ≡ places.old.items ++ place_by times place) }
-{
-    if times != 0 {
-        places.push(place)?;
+    let mut rest = rows;
+    while let [row, after @ ..] = rest {
+        add_row(program, total, row, text)?;
+        rest = after;
     }
     Ok(())
 }
 
-/// How often the instruction at a place was executed, in the first columns.
-pub(super) fn times_below(counts: &[u64], place: u16, columns: u16) -> u128
-    ensures { result ≡ times_below counts.now place columns }
+fn add_row(program: &Program, total: usize, row: &MapRow, text: &mut Vec<u8>) -> Result<(), Memory>
+    ensures { OnOk result (text.new.items ≡ text.old.items ++ told_row program.now total row.now) }
 {
-    let mut times = 0;
-    let mut column = 0;
-    while column < columns {
-        times += u128::from(count_in(counts, column, place));
-        column += 1;
-    }
-    times
+    let alloc = *text.allocator();
+    let name = place_text(alloc, line_at(program, row.place), row.place)?;
+    let times = counted_text(alloc, row.times, "time")?;
+    let (from, until) = (bound_of(total, row.from) + 1, bound_of(total, row.to));
+    let told = told_text(alloc, &name, &times, from, until)?;
+    text.extend_from_slice(told.as_bytes())?;
+    Ok(())
 }
 
-// The largest of the first counts.
-#[tactic(auto, unfolding(crate::specs::Map::most_below))]
-fn most_below(counts: &[u64], count: usize) -> u64
-    ensures { result ≡ most_below counts.now count }
-{
-    let mut most = 0;
-    let mut at = 0;
-    while at < count {
-        most = larger(most, count_at(counts, at));
-        at += 1;
-    }
-    most
-}
-
-// The larger of two counts.
-fn larger(a: u64, b: u64) -> u64
-    ensures { result ≡ max a b }
-{
-    a.max(b)
-}
-
-// The picture, with its text.
-#[tactic(auto, unfolding(crate::specs::Map::picture_text))]
-fn add_picture(
-    alloc: Global,
+// The boxes, and before the first one of a row its label.
+#[tactic(auto, unfolding(crate::specs::Map::boxes_text))]
+fn add_boxes(
     program: &Program,
-    sheet: &Sheet,
-    counts: &[u64],
-    places: &[u16],
+    total: usize,
+    rows: &[MapRow],
+    boxes: &[MapBox],
     text: &mut Vec<u8>,
 ) -> Result<(), Memory>
-    requires columns { 0 < sheet.now.columns }
-    requires high { 0 < sheet.now.high }
-    ensures { OnOk result (text.new.items ≡ text.old.items ++ picture_text program.now sheet.now counts.now places.now) }
+    ensures { OnOk result (text.new.items ≡ text.old.items ++ boxes_text program.now total rows.now boxes.now) }
 {
-    let height = height_of(sheet);
-    add_head(alloc, sheet, text)?;
-    add_told(alloc, program, sheet, counts, places, text)?;
-    text.extend_from_slice(b"</desc>\n")?;
-    add_rows(program, sheet, counts, places, text)?;
-    let close = close_text(alloc, height)?;
-    text.extend_from_slice(close.as_bytes())?;
+    let mut rest = boxes;
+    while let [drawn, after @ ..] = rest {
+        add_box(program, total, rows, drawn, text)?;
+        rest = after;
+    }
+    Ok(())
+}
+
+fn add_box(
+    program: &Program,
+    total: usize,
+    rows: &[MapRow],
+    drawn: &MapBox,
+    text: &mut Vec<u8>,
+) -> Result<(), Memory>
+    ensures { OnOk result (text.new.items ≡ text.old.items ++ box_drawn program.now total rows.now drawn.now) }
+{
+    add_label(program, rows, drawn, text)?;
+    let (high, top) = (high_of(rows.len()), top_of(rows.len(), drawn.row));
+    let left = edge_of(total, drawn.from);
+    let wide = edge_of(total, drawn.to).saturating_sub(left);
+    let shape = box_text(*text.allocator(), left, top, wide, high, drawn.dark)?;
+    text.extend_from_slice(shape.as_bytes())?;
+    Ok(())
+}
+
+fn add_label(
+    program: &Program,
+    rows: &[MapRow],
+    drawn: &MapBox,
+    text: &mut Vec<u8>,
+) -> Result<(), Memory>
+    ensures { OnOk result (text.new.items ≡ text.old.items ++ label_if program.now rows.now drawn.now) }
+{
+    let row = row_in(rows, drawn.row);
+    if is_labelled(&row, rows.len(), drawn) {
+        let alloc = *text.allocator();
+        let name = name_text(alloc, line_at(program, row.place), row.place)?;
+        let y = top_of(rows.len(), drawn.row) + u128::from(high_of(rows.len()).min(10));
+        let label = label_text(alloc, y, &name)?;
+        text.extend_from_slice(label.as_bytes())?;
+    }
     Ok(())
 }

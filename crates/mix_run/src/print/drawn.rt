@@ -9,7 +9,7 @@ ghost use Rattle.mix_run.specs.PrintOutput.{Leaves, answered, printed_outcome};
 ghost use Rattle.mix_run.specs.StepTable.{run_told};
 
 use crate::fault::ToolFault;
-use crate::map::{add_map, span_of};
+use crate::map::{MAX_ROWS, add_map, span_of};
 use crate::print::counts::run_steps;
 use crate::print::loaded::{left, tell_steps};
 use crate::print::options::PrintOptions;
@@ -17,6 +17,7 @@ use crate::print::part::{cell_named, step_table};
 use crate::print::tabled::StepTable;
 use crate::print::{PrintAnswer, Printed};
 use mix_machine::Units;
+use mix_map::map_of;
 use mix_refused::Memory;
 use mix_session::Session;
 use mix_stream::Out;
@@ -102,8 +103,10 @@ fn draw(alloc: Global, session: &Session) -> Result<Vec<u8>, Memory>
     ensures { IfOk result (λ text. IsMap session.now.program session.now.timeline text.items) }
 {
     let total = session.changes().len();
-    let counts = session.path(alloc, span_of(total))?;
+    let span = span_of(total);
+    let counts = session.path(alloc, span)?;
+    let map = map_of(alloc, &counts, span.columns, MAX_ROWS)?;
     let mut text = Vec::new(alloc);
-    add_map(alloc, session.program(), total, &counts, &mut text)?;
+    add_map(session.program(), total, &map, &mut text)?;
     Ok(text)
 }

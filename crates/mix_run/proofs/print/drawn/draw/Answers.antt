@@ -5,6 +5,6 @@ use Rattle.mix_run.proofs.print.drawn.draw.Goals as goal
 
 pub returns : goal.returns
 returns c =
-    drawn-path c.args.session.now.program _ c.args.session.now.timeline c.in_ok-counts.counts.items _ _ _ c.len-total.result c.span_of.result
-    (c.len-total.ensures ∙ ap length c.changes.ensures) c.span_of.ensures c.in_ok-counts.ensures c.program.ensures c.deref.ensures.value
+    drawn-path c.args.session.now.program _ c.args.session.now.timeline c.in_ok-counts.counts.items _ _ _ c.len-total.result c.span_of-span.result _
+    (c.len-total.ensures ∙ ap length c.changes.ensures) c.span_of-span.ensures c.in_ok-counts.ensures c.program.ensures c.deref.ensures.value c.in_ok-map.ensures
     c.new-text.ensures.items c.in_ok-add_map.ensures
