@@ -12,6 +12,7 @@ pub mod LayoutLemmas
 pub mod LegLemmas
 pub mod ListLemmas
 pub mod LocationLemmas
+pub mod MapLemmas
 pub mod MemoryLemmas
 pub mod NextLemmas
 pub mod PathLemmas

@@ -20,6 +20,7 @@ use Rattle.mix_dap.specs.Memory.{memory_asked}
 use Rattle.mix_dap.specs.Disassembly.{disassembly_asked}
 use Rattle.mix_dap.specs.Targets.{targets_asked}
 use Rattle.mix_dap.specs.Next.{next_asked}
+use Rattle.mix_dap.specs.Map.{map_shown}
 use Rattle.mix_dap.specs.Path.{path_asked}
 use Rattle.mix_dap.specs.Points.{no_points}
 use Rattle.mix_dap.specs.Program.{program_shown}
@@ -49,6 +50,7 @@ shown_of look.Completions r a = completions_asked a.session a.client.first_colum
 shown_of look.Program r a = Ok (program_shown a.session.program)
 shown_of look.Counts r a = Ok (counts_shown a.session)
 shown_of look.Path r a = path_asked a.session r
+shown_of look.Map r a = Ok (map_shown a.session)
 shown_of look.State r a = state_asked a.session r
 shown_of look.Units r a = units_asked (world_of a.session.timeline) r
 shown_of look.Change r a = change_asked a.session r

@@ -55,6 +55,7 @@ requests =
     (codes "mix/program", kind.Look look.Program) ∷
     (codes "mix/counts", kind.Look look.Counts) ∷
     (codes "mix/path", kind.Look look.Path) ∷
+    (codes "mix/map", kind.Look look.Map) ∷
     (codes "mix/state", kind.Look look.State) ∷
     (codes "mix/units", kind.Look look.Units) ∷
     (codes "mix/change", kind.Look look.Change) ∷

@@ -29,6 +29,7 @@ pub mod Leaves
 pub mod List
 pub mod Locations
 pub mod Look
+pub mod Map
 pub mod Memory
 pub mod Next
 pub mod Output

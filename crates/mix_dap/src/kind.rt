@@ -71,6 +71,8 @@ pub(crate) enum Look {
     Counts,
     /// Where the instructions were executed in the course of the changes.
     Path,
+    /// The same as a map, in rows and boxes.
+    Map,
     /// The machine as it is.
     State,
     /// The units.
@@ -167,6 +169,7 @@ fn requests() -> &'static [(&'static str, Kind)]
         ("mix/program", Kind::Look(Look::Program)),
         ("mix/counts", Kind::Look(Look::Counts)),
         ("mix/path", Kind::Look(Look::Path)),
+        ("mix/map", Kind::Look(Look::Map)),
         ("mix/state", Kind::Look(Look::State)),
         ("mix/units", Kind::Look(Look::Units)),
         ("mix/change", Kind::Look(Look::Change)),

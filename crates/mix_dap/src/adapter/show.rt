@@ -20,7 +20,7 @@ use crate::points::{breakpoint_locations, never};
 use crate::set::goto_targets;
 use crate::variables::variables;
 use crate::view::{
-    change_view, counts_view, next_view, path_view, program_view, state_view, units_view,
+    change_view, counts_view, map_view, next_view, path_view, program_view, state_view, units_view,
     writes_view,
 };
 use crate::watch::data_breakpoint_info;
@@ -56,6 +56,7 @@ impl Adapter {
             Look::Program => Ok(program_view(alloc, session.program())?),
             Look::Counts => Ok(counts_view(alloc, session)?),
             Look::Path => path_view(alloc, session, request),
+            Look::Map => Ok(map_view(alloc, session)?),
             Look::State => state_view(alloc, session, request),
             Look::Units => units_view(alloc, session.world(), request),
             Look::Change => change_view(alloc, session, request),

@@ -53,6 +53,7 @@ pub(crate) fn arguments_of(kind: Kind) -> &'static [Argument]
         | Kind::Look(Look::Fault)
         | Kind::Look(Look::Program)
         | Kind::Look(Look::Counts)
+        | Kind::Look(Look::Map)
         | Kind::Pause
         | Kind::Terminate
         | Kind::Restart
