@@ -5,7 +5,6 @@ import { $, all, between, counted, heats, isPressed, mark, on, partOf, put, save
 import { fileOf, mapOf, stripOf } from "./svg.js";
 
 const COLUMNS = 60; // of the strip, at most
-const MAX_ROWS = 120; // of the map
 const MOST_CHANGES = 50000; // after which cells have no tint
 
 // One ask gives all of a picture; it is asked again only where the changes, or what is asked, are
@@ -133,38 +132,30 @@ export class TimeMap extends Picture {
   show() { this.look(this.part); }
 
   async find(session) {
-    const { total } = session;
-    const { width, sums, marks } = await session.mapWith(this.part);
-    const last = sums[sums.length - 1];
-    const cells = [...last.keys()].filter((cell) => last[cell] > 0);
-    const rows = cells.slice(0, MAX_ROWS).map((cell) => {
-      const counts = sums.slice(1).map((times, at) => times[cell] - sums[at][cell]);
-      return { cell, count: last[cell], counts, first: counts.findIndex(Boolean), last: counts.findLastIndex(Boolean) };
-    });
-    return { total, width, rows, many: cells.length, marks };
+    return { total: session.total, ...(await session.mapWith(this.part)) };
   }
 
   draw() {
     $("map").replaceChildren();
     if (!this.found) return;
-    const { total, width, many, marks, rows: found } = this.found;
+    const { total, columns, found: many, rows: found, boxes, marks } = this.found;
     const { breakCells, lineOf } = this.listing;
     const furnish = (row) => ({ ...row, line: lineOf.get(row.cell), isBreak: breakCells.includes(row.cell) });
     const rows = found.map(furnish);
-    const more = `These are the first ${MAX_ROWS} of ${counted(many, "instruction")}.`;
-    put($("map-more"), many === 0 ? "Nothing was done yet." : many > MAX_ROWS ? more : "");
+    const more = `These are the first ${rows.length} of ${counted(many, "instruction")}.`;
+    put($("map-more"), many === 0 ? "Nothing was done yet." : many > rows.length ? more : "");
     if (rows.length === 0) return;
     const { done } = this.store.view.state;
     const title = `Map of ${counted(total, "change")}`;
-    $("map").append(mapOf({ title, text: this.textOf(rows), rows, width, marks, total, done }));
+    $("map").append(mapOf({ title, text: this.textOf(rows), rows, boxes, columns, marks, total, done }));
   }
 
   textOf(rows) {
-    const { total, width, marks } = this.found;
-    const end = (at) => Math.min(total, width * at);
-    const told = rows.map(({ cell, line, count, first, last }) => {
+    const { total, columns, marks } = this.found;
+    const end = (column) => Math.ceil((total * column) / columns);
+    const told = rows.map(({ cell, line, count, from, to }) => {
       const place = line ? `Line ${line}` : `Location ${cell}`;
-      return `${place}: ${counted(count, "time")}, between changes ${end(first) + 1} and ${end(last + 1)}.`;
+      return `${place}: ${counted(Number(count), "time")}, between changes ${end(from) + 1} and ${end(to)}.`;
     });
     const parts = marks.map(({ part, numbers }) => {
       const changes = counted(numbers.length, "change");

@@ -181,9 +181,8 @@ export class Session {
   }
 
   async mapWith(part) {
-    const { path, total } = this;
-    const [{ units }, ...bodies] = await this.bodies([["mix/units", {}], ...path.requestsTo(total)], total);
-    return { ...path.upTo(total, path.timesAt(total, bodies)), marks: await this.marksOf(part, units) };
+    const [{ units }, map] = await this.bodies([["mix/units", {}], ["mix/map", {}]], this.total);
+    return { ...map, marks: await this.marksOf(part, units) };
   }
 
   // The last changes that wrote to units and to a part. Of a unit that only prints, no more are

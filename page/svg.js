@@ -105,28 +105,26 @@ export function stripOf({ title, cells, columns, done }) {
   return picture({ id: "strip", title: name, text, width: columns.length * wide, height }, shapes);
 }
 
-// `counts` is how often a row was executed in each stretch of `width` changes; `marks` are parts,
-// each with the `numbers` of changes that wrote it, on a row of its own.
-export function mapOf({ title, text, rows, width, marks, total, done }) {
+// `boxes` are columns of a row that are equally dark, of so many `columns` of the same width; `marks`
+// are parts, each with the `numbers` of changes that wrote it, on a row of its own.
+export function mapOf({ title, text, rows, boxes, columns, marks, total, done }) {
   const high = Math.max(3, Math.min(12, 300 / rows.length));
   const left = LETTER * Math.max(4, ...marks.map(({ part }) => part.length)) + 8;
-  const most = Math.log(1 + Math.max(...rows.map(({ counts }) => Math.max(...counts))));
-  const shade = (count) => (count === 0 ? 0 : Math.round(10 * (0.25 + (0.75 * Math.log(1 + count)) / most)) / 10);
   const every = Math.ceil(11 / high);
   const named = (y, name, kind) => label(left - 4, y, name, kind, { "text-anchor": "end" });
-  const boxes = new Map(); // of each shade all of them, which are one shape
-  const x = (column) => tenths(left + Math.min(WIDE, (column * width * WIDE) / total));
-  const shapes = rows.flatMap(({ cell, line, isBreak, counts }, row) => {
+  const x = (column) => tenths(left + (column * WIDE) / columns);
+  const shapes = rows.flatMap(({ cell, line, isBreak }, row) => {
     const y = 4 + row * high;
-    for (const [dark, from, to] of runsOf(counts.map(shade))) {
-      const wide = tenths(x(to) - x(from));
-      boxes.set(dark, `${boxes.get(dark) || ""}M${x(from)} ${tenths(y)}h${wide}v${tenths(high)}h${-wide}z`);
-    }
     const tint = isBreak ? [box(left, y, WIDE, high, { ...solid("mark"), "fill-opacity": ".15" })] : [];
     const name = named(y + Math.min(high, 10), line ? String(line) : fourDigits(cell), isBreak ? "mark" : "soft");
     return [...tint, ...(row % every === 0 ? [name] : [])];
   });
-  for (const [dark, d] of boxes) shapes.push(shape("path", { d, "fill-opacity": String(dark), ...solid("bar") }));
+  const outlines = new Map(); // of each shade all boxes, which are one shape
+  for (const { row, from, to, dark } of boxes) {
+    const wide = tenths(x(to) - x(from));
+    outlines.set(dark, `${outlines.get(dark) || ""}M${x(from)} ${tenths(4 + row * high)}h${wide}v${tenths(high)}h${-wide}z`);
+  }
+  for (const [dark, d] of outlines) shapes.push(shape("path", { d, "fill-opacity": String(dark / 10), ...solid("bar") }));
   const foot = 4 + rows.length * high;
   marks.forEach(({ part, numbers }, row) => {
     const y = foot + 4 + row * 12;

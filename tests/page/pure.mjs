@@ -78,9 +78,7 @@ for (let round = 0; round < 20; round += 1) {
     const until = drawn(changes.length + 1);
     const times = path.timesAt(until, path.requestsTo(until).map(told));
     row("path: a moment", found(times), counted(until));
-    const { width, sums } = path.upTo(until, times);
-    row("path: columns", sums.map(found), sums.map((_, at) => counted(Math.min(until, at * width))));
-    row("path: of one width, not too many", [sums.length - 1 <= 480, sums.length - 1], [true, Math.ceil(until / width)]);
+    row("path: not too many columns", path.sums.length - 1 <= 480, true);
   }
 }
 row("cells of a range", [upTo(3, 5), upTo(3998, 5000), upTo(5, 4)], [[3, 4, 5], [3998, 3999], []]);
@@ -175,7 +173,7 @@ for (const ahead of [0, 4000]) {
   await asks.writesOf("cell 100");
 }
 for (const name of new Set(sent.map(([each]) => each))) row(`requests: ${name} has the arguments that it takes`, sent.filter(([each]) => each === name).map(wrongIn).filter(({ length }) => length > 0), []);
-row("requests: those that look", [...new Set(sent.map(([name]) => name).filter((name) => name.startsWith("mix/")))].sort(), ["change", "check", "next", "path", "program", "state", "units", "writes"].map((name) => `mix/${name}`));
+row("requests: those that look", [...new Set(sent.map(([name]) => name).filter((name) => name.startsWith("mix/")))].sort(), ["change", "check", "map", "next", "path", "program", "state", "units", "writes"].map((name) => `mix/${name}`));
 
 // The pictures, with elements that hold what they are given.
 const element = (name) => ({ name, given: {}, inside: [], setAttribute(key, value) { this.given[key] = value; }, append(...more) { this.inside.push(...more); } });

@@ -170,7 +170,7 @@ def map_grows(page, native, count):
 
 
 def map_time(page, native, count):
-    """The map of a million changes is open within a fifth of a second of the page's work, and the engine goes over none of them again."""
+    """The map of a million changes is open within a fifth of a second of the page's work, and the engine is asked for it once."""
     page.command("Performance.setTimeDomain", timeDomain="threadTicks")
     page.command("Performance.enable")
     page.lesson(0)
