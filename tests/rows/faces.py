@@ -3,6 +3,7 @@ import json
 import os
 import re
 import subprocess
+import tempfile
 
 LIMIT = 300  # seconds
 
@@ -32,7 +33,11 @@ class Program:
 
     def run(self, words, given=b"", **environment):
         """Standard output, standard error and the status."""
-        done = subprocess.run([self.path, *words], input=given, capture_output=True, cwd=self.folder, timeout=LIMIT, env={**os.environ, **environment})
+        # (a file, since what fills a pipe may be late, and a read would give less)
+        with tempfile.TemporaryFile() as file:
+            file.write(given)
+            file.seek(0)
+            done = subprocess.run([self.path, *words], stdin=file, capture_output=True, cwd=self.folder, timeout=LIMIT, env={**os.environ, **environment})
         return done.stdout, done.stderr, done.returncode
 
     def replies(self, source, script, deck=b"", *words):

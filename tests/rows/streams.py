@@ -106,17 +106,14 @@ ERRNO = {"interrupted": 4, "would block": 11}
 
 
 def each_call(program, fields, wanted):
-    """Up to the first call that fails: after it the program makes no other. A read asks for one chunk at most; what fills its pipe may be late."""
+    """Up to the first call that fails: after it the program makes no other. A read asks for one chunk at most."""
     size, (first, _) = int(fields[0]), map(int, fields[1].split("-"))
-    for _ in range(3):
-        gave, failed = read(program, b"*" * 20000, read_most=size, read_fails=first, fails_as=ERRNO["interrupted"])
-        reads = [f"{'failed' if it < 0 else f'read {max(it, size) if it == CHUNK else it}'}/{at}/{gave[:at].count(-1)}" for at, it in enumerate(gave, 1)]
-        took, _, broken = written(program, ["show cells 0 999"], write_most=size, write_fails=first, fails_as=ERRNO["interrupted"])
-        writes = [f"{'failed' if it < 0 else f'written {it}'}/{at}/{took[:at].count(-1)}" for at, it in enumerate(took, 1)]
-        seen = " ".join(f"{one} {other}" for one, other in zip(reads, writes))
-        if failed and broken and len(gave) == len(took) == first and wanted.startswith(seen):
-            return wanted
-    return seen
+    gave, failed = read(program, b"*" * 20000, read_most=size, read_fails=first, fails_as=ERRNO["interrupted"])
+    reads = [f"{'failed' if it < 0 else f'read {max(it, size) if it == CHUNK else it}'}/{at}/{gave[:at].count(-1)}" for at, it in enumerate(gave, 1)]
+    took, _, broken = written(program, ["show cells 0 999"], write_most=size, write_fails=first, fails_as=ERRNO["interrupted"])
+    writes = [f"{'failed' if it < 0 else f'written {it}'}/{at}/{took[:at].count(-1)}" for at, it in enumerate(took, 1)]
+    seen = " ".join(f"{one} {other}" for one, other in zip(reads, writes))
+    return wanted if failed and broken and len(gave) == len(took) == first and wanted.startswith(seen) else f"{seen}"
 
 
 def device_read(program, fields, _):
