@@ -1,0 +1,3 @@
+mod MachineRows
+mod ReadLemmas
+mod RowLemmas

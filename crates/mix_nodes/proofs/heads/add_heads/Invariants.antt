@@ -1,0 +1,11 @@
+use Rattle.std.proofs.Common.{◌≡◌, ◌++◌, flat_map, length}
+use Rattle.mix_nodes.specs.Text.{head_line}
+use Rattle.mix_nodes.proofs.heads.add_heads.Given as goal
+
+-- the lines so far, and those that are left, are all of them
+abbrev pub invariant-loop-rest : goal.invariant-loop-rest
+invariant-loop-rest l =
+    l.text.items ++ flat_map (head_line l.world l.shape) l.rest ≡ l.fn.text.items ++ flat_map (head_line l.world l.shape) l.shape.heads
+
+abbrev pub decreases-loop-rest : goal.decreases-loop-rest
+decreases-loop-rest l = length l.rest

@@ -1,0 +1,19 @@
+//! Linked structures in the cells of a machine (The Art of Computer Programming, 2.2.3): nodes,
+//! where their links lead, and in which rows they are.
+#![tactic(auto)]
+
+mod field;
+mod heads;
+mod item;
+mod line;
+mod nodes;
+mod place;
+mod read;
+mod rows;
+mod shape;
+mod text;
+mod words;
+
+pub use read::read_shape;
+pub use shape::{FieldAt, Head, HeadLink, Shape};
+pub use text::nodes_text;
