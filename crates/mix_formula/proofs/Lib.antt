@@ -1,0 +1,7 @@
+mod ArithmeticLemmas
+mod FormulaLemmas
+mod FoundLemmas
+mod ListedLemmas
+mod PiecesLemmas
+mod TableLemmas
+mod TextLemmas
