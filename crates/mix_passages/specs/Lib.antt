@@ -1,0 +1,4 @@
+pub mod Assertion
+pub mod Passages
+pub mod Reading
+pub mod Table
