@@ -249,6 +249,10 @@ A session whose input is a terminal; the echo and the prompts are left out.
   stderr: show counts      how often each instruction was executed, and the time that it took
   stderr: show conflicts   each change done that conflicts with a transfer under way, and with which
   stderr: show clock, show breaks, show changes, show symbols
+  stderr: show nodes from E to E, N words each, label F, links F, heads H  lists and trees in cells
+  stderr: show passages E of ITEM  the parts ITEM each time that E was reached; assert A > 0 tests them
+  stderr: show analysis [N=10]  the counts in brackets in the source, as [N-1], beside the measured ones
+  stderr: show map         which instructions were executed when
   stderr: quit             ends the session, as the end of the input does
   stderr: COND is a register, over, cmp, cell E, unit N, loc E or conflict: a change reaches it by altering
   stderr: what it names, by leading to location E, or by a conflict with a transfer under way. As:
@@ -351,7 +355,7 @@ Wrong words are answered with the right ones.
   stderr: break takes E, a cell, or line N
   stderr: clear takes E, a cell, line N or all; show breaks lists them
   stderr: show takes regs, all, cells E E, unit N, code, value W, values, last N, writes COND, diff N,
-  stderr: counts, conflicts, clock, breaks, changes or symbols
+  stderr: counts, conflicts, clock, breaks, changes, symbols, nodes, passages, analysis or map
   stderr: watch takes COND: a register, over, cmp, cell E, unit N, loc E or conflict
   stderr: delete takes nothing: it forgets what is watched; clear E takes a breakpoint away
   stderr: A  + 00 00 00 00 00           0  "     "
@@ -393,11 +397,11 @@ Commands of gdb and of mixvm: each is refused, whatever follows it, and what to 
   $ hints 'info registers'
         1 ? C1 no such command
         1 stderr: show takes regs, all, cells E E, unit N, code, value W, values, last N, writes COND, diff N,
-        1 stderr: counts, conflicts, clock, breaks, changes or symbols
+        1 stderr: counts, conflicts, clock, breaks, changes, symbols, nodes, passages, analysis or map
   $ hints 'i b'
         1 ? C1 no such command
         1 stderr: show takes regs, all, cells E E, unit N, code, value W, values, last N, writes COND, diff N,
-        1 stderr: counts, conflicts, clock, breaks, changes or symbols
+        1 stderr: counts, conflicts, clock, breaks, changes, symbols, nodes, passages, analysis or map
   $ hints 'preg A' pflags pc pstat
         4 ? C1 no such command
         4 stderr: print shows the registers, print A rA alone; show regs has the toggle and the indicator

@@ -1,6 +1,6 @@
 -- What is only said of a line that a person types: no line of a script is executed for it.
 use Rattle.std.specs.Prelude.{ℕ, ◌-◌, ◌&&◌, ◌||◌, ◌++◌, List, [], ◌∷◌, Bool, true, false, codes, length, Option, None, Some, if◌then◌else◌}
-use Rattle.std.specs.Option.{option_map}
+use Rattle.std.specs.Option.{option_map, option_or}
 use Rattle.std.specs.Str.{str_eq_ignore_ascii_case}
 use Rattle.mix_lines.specs.Lines.{lines, words}
 use Rattle.mix_machine.specs.Do.{is_halt_next}
@@ -16,6 +16,7 @@ use Rattle.mix_session.specs.declared.answer.Answer.TheVariants.{Shows}
 use Rattle.mix_session.specs.Differences.{held_text}
 use Rattle.mix_session.specs.declared.altered.Altered.TheVariants as part
 use Rattle.mix_session.specs.declared.request.topics.Topic.TheVariants.{Values}
+use Rattle.mix_views.specs.View.{view_in}
 use Rattle.mix_person.specs.Person.{is_one_of, is_register}
 
 -- whether a change is a step of HLT, from this machine
@@ -74,4 +75,5 @@ part_text s name =
 -- what is only said of the line of a script that a person's line stands for, if that is all: the machine stays, and nothing else is written
 unfoldable pub aside_of : SessionState → List ℕ → Option (List ℕ)
 aside_of s typed =
-    if goes_on (words typed) && is_halted s.timeline then Some halted_text else option_map (part_text s) (part_in (words typed))
+    if goes_on (words typed) && is_halted s.timeline then Some halted_text
+    else option_or (view_in s (words typed)) (option_map (part_text s) (part_in (words typed)))

@@ -1,4 +1,4 @@
-//! What is only said of a line that a person types: a part of the machine, or that the program has halted.
+//! What is only said of a line that a person types: a view of the session, a part of the machine, or that the program has halted.
 
 ghost use Rattle.std.specs.Prelude.{◌≡◌, ◌∷◌, ◌++◌, [], Some, IfOk, OnOk, codes, is_some, option_map};
 ghost use Rattle.mix_lines.specs.Lines.{lines, words};
@@ -13,6 +13,7 @@ use mix_lines::{Words, split_line};
 use mix_machine::{Change, World};
 use mix_refused::Memory;
 use mix_session::{Altered, Answer, Held, Session, Topic};
+use mix_views::view_of;
 use std::alloc::Global;
 
 fn halted_text() -> &'static str
@@ -195,8 +196,8 @@ fn halted(alloc: Global) -> Result<Vec<u8>, Memory>
     Ok(text)
 }
 
-/// What is only said of the line of a script that a person's line stands for, if that is all: a part of the machine that it shows, or that the program
-/// has halted, if it asks for steps without a number.
+/// What is only said of the line of a script that a person's line stands for, if that is all: a view of the session or a part of the machine that it
+/// shows, or that the program has halted, if it asks for steps without a number.
 #[tactic(auto, unfolding(crate::specs::Aside::aside_of))]
 pub fn only_said(alloc: Global, session: &Session, typed: &[u8]) -> Result<Option<Vec<u8>>, Memory>
     ensures { IfOk result (λ said. option_map (λ text. text.items) said ≡ aside_of session.now typed.now) }
@@ -205,5 +206,8 @@ pub fn only_said(alloc: Global, session: &Session, typed: &[u8]) -> Result<Optio
         let text = halted(alloc)?;
         return Ok(Some(text));
     }
-    shown_part(alloc, session, typed)
+    match view_of(alloc, session, typed)? {
+        None => shown_part(alloc, session, typed),
+        seen => Ok(seen),
+    }
 }

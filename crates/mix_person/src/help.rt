@@ -85,11 +85,15 @@ show diff N      what differs between the state after N changes and now
 show counts      how often each instruction was executed, and the time that it took
 show conflicts   each change done that conflicts with a transfer under way, and with which
 show clock, show breaks, show changes, show symbols
+show nodes from E to E, N words each, label F, links F, heads H  lists and trees in cells
+show passages E of ITEM  the parts ITEM each time that E was reached; assert A > 0 tests them
+show analysis [N=10]  the counts in brackets in the source, as [N-1], beside the measured ones
+show map         which instructions were executed when
 ";
 
 pub(crate) const SHOW_TAKES: &str = "\
 show takes regs, all, cells E E, unit N, code, value W, values, last N, writes COND, diff N,
-counts, conflicts, clock, breaks, changes or symbols
+counts, conflicts, clock, breaks, changes, symbols, nodes, passages, analysis or map
 ";
 
 const WATCH_TAKES: &str =

@@ -1,0 +1,2 @@
+mod AnalysisLemmas
+mod MapLemmas

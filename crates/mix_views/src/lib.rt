@@ -1,0 +1,100 @@
+//! What a person sees of a session beside what a script shows: nodes of linked memory, passages of a line, the counts of the book, the map.
+#![tactic(auto)]
+
+mod analysis;
+mod map;
+
+ghost use Rattle.std.specs.Prelude.{◌≡◌, IfOk, option_map};
+ghost use Rattle.mix_lines.specs.Lines.{words};
+ghost use Rattle.mix_views.specs.View.{nodes_view, passages_view, view_in, view_named};
+
+use crate::analysis::analysis_view;
+use crate::map::map_text;
+pub use analysis::rows_in;
+use mix_lines::{Words, next_word};
+use mix_machine::{Sign, Word};
+use mix_nodes::{nodes_text, read_shape};
+use mix_passages::{passages_text, read_passages};
+use mix_refused::Memory;
+use mix_session::Session;
+use std::alloc::Global;
+
+/// What a line `show nodes ..`, `show passages ..`, `show analysis ..` or `show map` says (2.2.3, 1.2.1, 1.3.2); none for any other line, and for one
+/// whose words say nothing. Only out of memory refuses it.
+#[tactic(auto, unfolding(crate::specs::View::view_in))]
+pub fn view_of(
+    alloc: Global,
+    session: &Session,
+    typed: &[u8],
+) -> Result<Option<Vec<u8>>, Memory>
+    ensures { IfOk result (λ said. option_map (λ text. text.items) said ≡ view_in session.now (words typed.now)) }
+{
+    let Some((command, rest)) = next_word(typed) else {
+        return Ok(None);
+    };
+    let Some((name, rest)) = next_word(rest) else {
+        return Ok(None);
+    };
+    if command.eq_ignore_ascii_case(b"show") {
+        view_named(alloc, session, name, rest)
+    } else {
+        Ok(None)
+    }
+}
+
+fn view_named(
+    alloc: Global,
+    session: &Session,
+    name: &[u8],
+    rest: &[u8],
+) -> Result<Option<Vec<u8>>, Memory>
+    ensures { IfOk result (λ said. option_map (λ text. text.items) said ≡ view_named session.now name.now (words rest.now)) }
+{
+    let mut words = Words::of(rest);
+    if name.eq_ignore_ascii_case(b"nodes") {
+        nodes_view(alloc, session, &mut words)
+    } else if name.eq_ignore_ascii_case(b"passages") {
+        passages_view(alloc, session, rest)
+    } else if name.eq_ignore_ascii_case(b"analysis") {
+        analysis_view(alloc, session, &mut words)
+    } else if name.eq_ignore_ascii_case(b"map") && words.is_end() {
+        let text = map_text(alloc, session)?;
+        Ok(Some(text))
+    } else {
+        Ok(None)
+    }
+}
+
+fn nodes_view(
+    alloc: Global,
+    session: &Session,
+    words: &mut Words,
+) -> Result<Option<Vec<u8>>, Memory>
+    ensures { IfOk result (λ said. option_map (λ text. text.items) said ≡ nodes_view session.now words.old) }
+{
+    let world = session.world();
+    let here = Word::of(Sign::Plus, u32::from(world.loc()));
+    match read_shape(alloc, words, session.program(), here)? {
+        None => Ok(None),
+        Some(shape) => {
+            let text = nodes_text(alloc, world, &shape)?;
+            Ok(Some(text))
+        }
+    }
+}
+
+fn passages_view(
+    alloc: Global,
+    session: &Session,
+    rest: &[u8],
+) -> Result<Option<Vec<u8>>, Memory>
+    ensures { IfOk result (λ said. option_map (λ text. text.items) said ≡ passages_view session.now (words rest.now)) }
+{
+    match read_passages(alloc, session, rest)? {
+        None => Ok(None),
+        Some(asked) => {
+            let text = passages_text(alloc, session, &asked)?;
+            Ok(Some(text))
+        }
+    }
+}
