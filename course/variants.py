@@ -14,10 +14,15 @@ ALL = sorted([*exercises_1.EXERCISES, *exercises_2.EXERCISES, *exercises_5.EXERC
 SMALL, LARGE, MORE = 3, 8, 3  # up to SMALL entries a case counts one point, if others have LARGE or more; any other case counts MORE
 
 
+def own_case(exercise, student):
+    """The case that a student sees."""
+    return exercise.make(Draw(exercise.name, student), exercise.sizes[-2] if len(exercise.sizes) > 1 else exercise.sizes[0])
+
+
 def cases_of(exercise, student, secret):
     """The cases by their names, each with its kind and its weight: a program that does no more than the smallest cases gets little for it. The first is
     the one that the student sees; one asks for the limits too, and one that no step uses cells of a transfer under way."""
-    own = exercise.make(Draw(exercise.name, student), exercise.sizes[-2] if len(exercise.sizes) > 1 else exercise.sizes[0])
+    own = own_case(exercise, student)
     cases = {"1_own": (own, "", MORE)}
     if exercise.put:
         hidden = [exercise.make(Draw(exercise.name, student, secret, str(at)), size) for at, size in enumerate(exercise.sizes)]
@@ -47,15 +52,13 @@ def kept_lines(exercise, case):
         yield line
 
 
-def handout(exercise, student, case):
-    lesson = (COURSE / exercise.name / "README.md").read_text()
-    title = lesson.partition("\n")[0].removeprefix("# ")
-    asked = re.search(r"^\*\*Exercise\.?\*\*\.? *(.*?)\n\n", lesson, re.S | re.M)
-    parts = [f"# {title}: the exercise of {student}", wrapped(asked[1]) if asked else "", wrapped(f"**What your program must keep to.** {exercise.contract}")]
+def conditions(exercise, case, tried):
+    """What the program of a case keeps to, in paragraphs; `tried` says what for."""
+    parts = [wrapped(f"**What your program must keep to.** {exercise.contract}")]
     if case.told:
         parts.append(wrapped(case.told))
     elif case.given:
-        parts.append("Keep these lines, labels and comments. Your program is also run with other values in them.")
+        parts.append(f"Keep these lines, labels and comments. {tried}")
         parts.append("```text\n" + "".join(f"{line}\n" for line in kept_lines(exercise, case)) + "```")
     for name, lines in (("cards", case.cards), ("units", case.deck)):
         if lines:
@@ -64,6 +67,22 @@ def handout(exercise, student, case):
         parts.append("For full marks, no step may use or alter a cell while a unit still reads into it or writes from it.")
     if case.limits:
         parts.append("For full marks, with these data: " + ", ".join(case.limits).replace("<=", "at most").replace("clock =", "clock") + ".")
+    return "\n\n".join(parts)
+
+
+def told(exercise, student, tried):
+    """What a hand-out says of the data of a student, and the files of the cases of that."""
+    own = own_case(exercise, student)
+    kinds = [kind for kind in ("", "limits", "strict") if not kind or getattr(own, kind)]
+    return conditions(exercise, own, tried), [own.files(exercise.put, kind, MORE) for kind in kinds]
+
+
+def handout(exercise, student, case):
+    lesson = (COURSE / exercise.name / "README.md").read_text()
+    title = lesson.partition("\n")[0].removeprefix("# ")
+    asked = re.search(r"^\*\*Exercise\.?\*\*\.? *(.*?)\n\n", lesson, re.S | re.M)
+    parts = [f"# {title}: the exercise of {student}", wrapped(asked[1]) if asked else ""]
+    parts.append(conditions(exercise, case, "Your program is also run with other values in them."))
     return "\n\n".join(part for part in parts if part) + "\n"
 
 

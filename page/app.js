@@ -8,11 +8,13 @@ import { showFound, toldRefusal } from "./faults.js";
 import { Listing } from "./listing.js";
 import { Broken, STOPPED } from "./machine.js";
 import { Memory, showRegisters, showSymbols } from "./memory.js";
+import { Nodes } from "./nodes.js";
 import { Heat, TimeMap } from "./pictures.js";
 import { Predict } from "./predict.js";
 import { toldOf } from "./sentence.js";
 import { WHOLE } from "./session.js";
 import { Store } from "./store.js";
+import { Analysis, Passages } from "./tables.js";
 import { Talk } from "./talk.js";
 import { Time } from "./time.js";
 import { Papers, Units } from "./units.js";
@@ -25,7 +27,7 @@ export class App {
   said = ["", false, ""]; // what the status says
 
   constructor(machine, grammar) {
-    const shown = () => ({ blocks: this.units.requests, field: this.bars.field ?? WHOLE });
+    const shown = () => ({ blocks: this.units.requests, field: this.bars.field ?? WHOLE, line: this.nodes.line });
     const store = new Store(machine, () => this.texts, shown);
     this.store = store;
     this.predict = new Predict(store);
@@ -34,7 +36,10 @@ export class App {
     store.on("view", showRegisters);
     this.memory = new Memory(store);
     this.bars = new Bars(store);
+    this.nodes = new Nodes(store, this.memory);
     this.map = new TimeMap(store, this.listing);
+    this.analysis = new Analysis(store, this.listing);
+    this.passages = new Passages(store, this.listing);
     const papers = new Papers("papers");
     store.on("view", (view) => papers.show(view));
     store.on("forget", () => papers.show());
@@ -72,6 +77,10 @@ export class App {
       await store.enqueue(() => who.open(part));
       this.map.watch(part);
     });
+    for (const summary of all("#picture summary")) {
+      const reveal = () => summary.parentNode.open && summary.scrollIntoView();
+      summary.addEventListener("click", () => requestAnimationFrame(reveal));
+    }
     for (const tab of all("#tabs button")) tab.addEventListener("click", () => choose(tab.dataset.tab));
     WIDEST.addEventListener("change", () => this.place());
     this.place();
@@ -111,7 +120,7 @@ export class App {
   }
 
   // The lines of the script that are done are done again, and those that are left are shown.
-  open({ source, deck, done, left, breaks, bars, score, shown }) {
+  open({ source, deck, done, left, breaks, bars, nodes, passages, names, score, shown }) {
     const { store, listing, talk } = this;
     store.drop();
     return store.add(async () => {
@@ -126,6 +135,9 @@ export class App {
       listing.shut(shown.includes("no-words"));
       this.predict.open(score, shown.includes("predict"));
       $("map-box").open = shown.includes("map");
+      this.nodes.open(nodes, [...source.split("\n"), ...done, ...left]);
+      this.analysis.open(names, shown.includes("analysis"));
+      this.passages.open(passages, passages !== "");
       talk.lines = [...done, ...left];
       this.isOpening = true;
       await store.begin().finally(() => Object.assign(this, { isOpening: false }));
@@ -137,10 +149,13 @@ export class App {
 
   partsFor(lesson) {
     const { source, deck, cards } = this.texts;
-    const { listing: { breaks, isShut }, talk: { lines: left }, bars: { kept: bars }, predict: { kept: score } } = this;
-    const is = { map: this.map.isOpen, "no-words": isShut, predict: $("predict").checked };
+    const { listing: { breaks, isShut }, talk: { lines: left }, map, analysis } = this;
+    const [bars, nodes, passages, names, score] = [this.bars, this.nodes, this.passages, analysis, this.predict]
+      .map(({ kept }) => kept);
+    const is = { map: map.isOpen, analysis: analysis.isOpen, "no-words": isShut, predict: $("predict").checked };
     const shown = Object.keys(is).filter((word) => is[word]).join(" ");
-    const script = scriptOf({ done: this.store.session?.lines || [], left, breaks, bars, score, shown, lesson });
+    const done = this.store.session?.lines || [];
+    const script = scriptOf({ done, left, breaks, bars, nodes, passages, names, score, shown, lesson });
     return { source, deck: withCards(deck, cards), script };
   }
 }

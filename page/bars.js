@@ -50,7 +50,8 @@ export class Bars {
     return this.isOpen && kept.every((word) => /^\S+$/.test(word)) ? kept.join(" ") : "";
   }
 
-  // Another program: the bars that were kept, or the widest range of cells that its script shows.
+  // Another program: the bars that were kept, or the widest range of cells that its script shows,
+  // unless another picture is open.
   async open(kept, script) {
     const [from, to, by, strip] = kept.split(" ");
     const named = script.map((line) => SHOWS.exec(line)).filter(Boolean).map(([, first, last]) => [first, last]);
@@ -63,7 +64,7 @@ export class Bars {
     $("bars-by").value = FIELD.test(by) ? "field" : by === "characters" ? by : "number";
     if (FIELD.test(by)) $("bars-field").value = by;
     this.strip.toggle(strip === "strip");
-    $("bars-box").open = Boolean(kept) || best >= LEAST_BARS;
+    $("bars-box").open = Boolean(kept) || (best >= LEAST_BARS && !$("nodes-box").open);
     await this.range.choose(kept ? [from, to] : named[widths.indexOf(best)] || ["0", "9"]);
   }
 

@@ -4,8 +4,8 @@
 const HEADER_OF_CARDS = /^%unit[ \t]+0?16(?![0-9])/i;
 const KEPT = "* Kept by the page, and no commands:";
 const NAMES = {
-  lesson: "lesson", breaks: "breakpoints at lines", bars: "bars", score: "right predictions", shown: "shown too",
-  left: "still to do",
+  lesson: "lesson", breaks: "breakpoints at lines", bars: "bars", nodes: "nodes", passages: "passages",
+  names: "values of names", score: "right predictions", shown: "shown too", left: "still to do",
 };
 const remark = (name, text) => `* ${NAMES[name]}: ${text}`;
 const linesOf = (text) => text.split(/\r?\n/);
@@ -47,8 +47,8 @@ export function openedOf({ source, deck, script }, waits) {
   };
   const [done, left, shown] = [lines.slice(0, at), after("left"), after("shown").join(" ").split(" ")];
   const breaks = after("breaks").join(" ").split(" ").map(Number).filter((line) => line > 0);
-  const [bars, score, lesson] = ["bars", "score", "lesson"].map((name) => after(name).join(" "));
-  const opened = { source, deck, breaks, shown, bars, score, lesson };
+  const texts = ["bars", "nodes", "passages", "names", "score", "lesson"].map((name) => [name, after(name).join(" ")]);
+  const opened = { source, deck, breaks, shown, ...Object.fromEntries(texts) };
   return waits ? { ...opened, done: [], left: [...done, ...left] } : { ...opened, done, left };
 }
 

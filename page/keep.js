@@ -29,9 +29,10 @@ export class Keep {
   lesson = /** @type {Lesson} */ (null);
   isOther = false; // the text is another than the lesson's
 
-  constructor(/** @type {App} */ app, /** @type {Lesson[]} */ lessons) {
+  constructor(/** @type {App} */ app, /** @type {Lesson[]} */ lessons, /** @type {Check} */ check) {
     this.app = app;
     this.lessons = lessons;
+    this.check = check;
     app.store.on("texts", () => this.recognize());
     on("lessons", "change", () => this.choose());
     on("open", "click", () => $("file").click());
@@ -69,6 +70,7 @@ export class Keep {
   setLesson(/** @type {Lesson} */ lesson) {
     const { title = "", notes = "", answer = "", solution = null } = lesson || {};
     this.lesson = lesson;
+    this.check.setLesson(lesson);
     $("notes-title").textContent = title;
     $("notes-text").innerHTML = notes;
     $("answer-text").innerHTML = answer;
@@ -76,11 +78,12 @@ export class Keep {
     $("answer-open").hidden = !solution;
   }
 
-  // Names the text: a lesson, an edited one, or one's own, which has no line of it.
+  // Names the text: a lesson, an edited one, or one's own, which has no line of it, nor of the data
+  // of its exercise.
   recognize() {
     const { talk, isOpening, listing: { text } } = this.app;
     const other = isOf(this.lesson, text) ? null : this.lessons.find((lesson) => isOf(lesson, text));
-    const isOwn = this.lesson && !other && sharedLines(text, this.lesson.bundle.source) === 0;
+    const isOwn = this.lesson && !other && sharedLines(text, this.lesson.bundle.source + this.check.data) === 0;
     if (other || isOwn) {
       this.setLesson(other || null);
       if (!isOpening) talk.lines = other ? openedOf(other.bundle, true).left : [];

@@ -52,6 +52,18 @@ export class Listing {
     this.draw();
   }
 
+  // Another text, by an edit of the lines that differ. It can be undone, and breakpoints elsewhere
+  // stay.
+  replace(text) {
+    const [old, lines] = [this.text, text].map((each) => each.split("\n"));
+    const least = Math.min(old.length, lines.length);
+    let [head, tail] = [0, 0];
+    while (head < least && old[head] === lines[head]) head += 1;
+    while (tail < least - head && old[old.length - 1 - tail] === lines[lines.length - 1 - tail]) tail += 1;
+    const more = lines.slice(head, lines.length - tail).map((line) => `${line}\n`).join("");
+    if (text !== this.text) this.cm.replaceRange(more, { line: head, ch: 0 }, { line: old.length - tail, ch: 0 });
+  }
+
   lineText(line) { return this.cm.getLine(line - 1) || ""; }
 
   edited(changes) {

@@ -1,6 +1,7 @@
 // The beginning: what the page needs is in it, in blocks that `assemble` has put there.
 
 import { App } from "./app.js";
+import { Check } from "./check.js";
 import { grammarOf } from "./colours.js";
 import { $, make } from "./dom.js";
 import { IN_FRAME, Keep } from "./keep.js";
@@ -10,10 +11,10 @@ import { bytesOfBlock, textOfBlock } from "./share.js";
 import { NO_TOUR, Tour } from "./tour.js";
 
 async function begin() {
-  const names = ["worker", "lessons", "grammar", "operations", "characters", "library"];
+  const names = ["worker", "lessons", "grammar", "operations", "characters", "library", "cases"];
   const texts = names.map((name) => textOfBlock(`${name}-block`));
   const module = await bytesOfBlock("engine-block");
-  const [worker, lessons, grammar, operations, characters, library] = await Promise.all(texts);
+  const [worker, lessons, grammar, operations, characters, library, cases] = await Promise.all(texts);
   takeTables(operations, characters);
   document.head.append(make("script", {}, library)); // the policy of the page names it by its sum
   const app = new App(new Machine(worker, module), grammarOf(JSON.parse(grammar)));
@@ -21,7 +22,8 @@ async function begin() {
   window.addEventListener("unhandledrejection", ({ reason }) => told(reason));
   window.addEventListener("error", ({ message }) => told(message));
   fillCard();
-  const keep = new Keep(app, JSON.parse(lessons));
+  const check = new Check(app.store, app.listing, JSON.parse(cases));
+  const keep = new Keep(app, JSON.parse(lessons), check);
   const tour = new Tour();
   if (await keep.openLink()) return;
   await keep.openLesson(keep.lessons[0]);

@@ -90,9 +90,9 @@ export class Memory {
     walks("register-rows", 9);
   }
 
-  showFrom(name) {
+  showFrom(name, last = `${name}+19`) {
     $("cells-which").value = "range";
-    this.range.choose([name, `${name}+19`]);
+    this.range.choose([name, last]);
   }
 
   show() {

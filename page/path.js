@@ -32,11 +32,5 @@ export class Path {
     return times;
   }
 
-  upTo(until, times) {
-    const { sums, width } = this;
-    const whole = Math.floor(until / width);
-    return { width, sums: [...sums.slice(0, whole + 1), ...(whole * width < until ? [times] : [])] };
-  }
-
   cut(done) { this.sums.length = Math.min(this.sums.length, 1 + Math.floor(done / this.width)); }
 }

@@ -2,10 +2,10 @@
 // lines and cells.
 
 import { $, all, between, counted, heats, isPressed, mark, on, partOf, put, saved } from "./dom.js";
+import { refusalOf } from "./machine.js";
 import { fileOf, mapOf, stripOf } from "./svg.js";
 
 const COLUMNS = 60; // of the strip, at most
-const MAX_ROWS = 120; // of the map
 const MOST_CHANGES = 50000; // after which cells have no tint
 
 // One ask gives all of a picture; it is asked again only where the changes, or what is asked, are
@@ -50,9 +50,13 @@ export class Picture {
 }
 
 export function keepsPictures(store, name, what, selector) {
-  const file = () => fileOf(all(selector));
-  on(`${name}-save`, "click", () => saved(file(), "image/svg+xml", `${name}.svg`));
-  on(`${name}-copy`, "click", () => store.copy(file(), `The ${what}, as SVG,`));
+  const give = (id, work) => on(id, "click", () => {
+    const drawn = all(selector);
+    if (drawn.length > 0) work(fileOf(drawn));
+    else store.tell("Nothing is drawn yet.", true);
+  });
+  give(`${name}-save`, (file) => saved(file, "image/svg+xml", `${name}.svg`));
+  give(`${name}-copy`, (file) => store.copy(file, `The ${what}, as SVG,`));
 }
 
 // A column for each of some moments, a row for each cell, as dark as its value is large.
@@ -102,6 +106,22 @@ export class Strip extends Picture {
   }
 }
 
+// What `show map` says: of each row its cell, how often it was executed, and boxes of columns in
+// which it is equally dark.
+export function mapIn(text) {
+  const [head, ...lines] = text.trimEnd().split("\n");
+  const [, columns = 0, many = 0] = (head.match(/\d+/g) || []).map(Number);
+  const boxIn = (word) => {
+    const [from, to, dark] = word.split(/\.\.|:/).map(Number);
+    return { from, to, dark };
+  };
+  const rows = lines.map((line) => {
+    const [cell, count, ...boxes] = line.split(" ");
+    return { cell: Number(cell), count: Number(count), boxes: boxes.map(boxIn) };
+  });
+  return { columns, many, rows };
+}
+
 // Which lines were executed: a row for each, darker where it was oftener; below what was written
 // to units, and to the part of which somebody asked last who wrote it.
 export class TimeMap extends Picture {
@@ -134,37 +154,32 @@ export class TimeMap extends Picture {
 
   async find(session) {
     const { total } = session;
-    const { width, sums, marks } = await session.mapWith(this.part);
-    const last = sums[sums.length - 1];
-    const cells = [...last.keys()].filter((cell) => last[cell] > 0);
-    const rows = cells.slice(0, MAX_ROWS).map((cell) => {
-      const counts = sums.slice(1).map((times, at) => times[cell] - sums[at][cell]);
-      return { cell, count: last[cell], counts, first: counts.findIndex(Boolean), last: counts.findLastIndex(Boolean) };
-    });
-    return { total, width, rows, many: cells.length, marks };
+    const { map, marks } = await session.mapWith(this.part);
+    return { total, marks, refusal: refusalOf(map), ...mapIn(map.success ? map.body.result : "") };
   }
 
   draw() {
     $("map").replaceChildren();
     if (!this.found) return;
-    const { total, width, many, marks, rows: found } = this.found;
+    const { total, columns, many, marks, rows: found, refusal } = this.found;
     const { breakCells, lineOf } = this.listing;
     const furnish = (row) => ({ ...row, line: lineOf.get(row.cell), isBreak: breakCells.includes(row.cell) });
     const rows = found.map(furnish);
-    const more = `These are the first ${MAX_ROWS} of ${counted(many, "instruction")}.`;
-    put($("map-more"), many === 0 ? "Nothing was done yet." : many > MAX_ROWS ? more : "");
+    const more = many > rows.length ? `These are the first ${rows.length} of ${counted(many, "instruction")}.` : "";
+    put($("map-more"), refusal ? `Not shown: ${refusal}.` : many === 0 ? "Nothing was done yet." : more);
     if (rows.length === 0) return;
     const { done } = this.store.view.state;
     const title = `Map of ${counted(total, "change")}`;
-    $("map").append(mapOf({ title, text: this.textOf(rows), rows, width, marks, total, done }));
+    $("map").append(mapOf({ title, text: this.textOf(rows), rows, columns, marks, total, done }));
   }
 
   textOf(rows) {
-    const { total, width, marks } = this.found;
-    const end = (at) => Math.min(total, width * at);
-    const told = rows.map(({ cell, line, count, first, last }) => {
+    const { total, columns, marks } = this.found;
+    const end = (column) => Math.ceil((total * column) / columns);
+    const told = rows.map(({ cell, line, count, boxes }) => {
       const place = line ? `Line ${line}` : `Location ${cell}`;
-      return `${place}: ${counted(count, "time")}, between changes ${end(first) + 1} and ${end(last + 1)}.`;
+      const [from, to] = [boxes[0].from, boxes[boxes.length - 1].to];
+      return `${place}: ${counted(count, "time")}, between changes ${end(from) + 1} and ${end(to)}.`;
     });
     const parts = marks.map(({ part, numbers }) => {
       const changes = counted(numbers.length, "change");

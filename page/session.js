@@ -8,7 +8,7 @@ const MOST_WRITES = 1000; // that the engine tells at once
 export const WHOLE = 5; // the field (0:5)
 const WHERE = ["mix/state", { cells: [], nonzero: false }]; // how many changes are done
 const ZERO = { word: "+ 00 00 00 00 00", number: "0", characters: "     ", value: "0" };
-const repl = (expression) => ["evaluate", { expression, context: "repl" }];
+export const repl = (expression) => ["evaluate", { expression, context: "repl" }];
 
 function openingOf({ deck, cards, source }) {
   const texts = { sourceText: source, devicesText: deck, cardsText: cards || undefined };
@@ -26,7 +26,8 @@ function loggedOf(command, answer) {
 }
 
 export class Session {
-  // `shown` gives the requests for blocks of tapes and disks, and the field of cells that is shown.
+  // `shown` gives the requests for blocks of tapes and disks, the field of cells that is shown, and
+  // perhaps a line that asks for what is drawn of a moment.
   constructor(machine, texts, shown) {
     this.machine = machine;
     this.texts = texts;
@@ -65,9 +66,10 @@ export class Session {
   }
 
   async see(commands, at = this.done) {
-    const { blocks, field } = this.shown();
+    const { blocks, field, line = "" } = this.shown();
     const all = ["mix/state", { cells: [], nonzero: true, instructions: true, field }];
-    const answers = await this.ask([...commands.map(repl), all, ["mix/units", {}], ...blocks], at);
+    const asked = [...commands.map(repl), all, ["mix/units", {}], ...blocks, ...(line ? [repl(line)] : [])];
+    const answers = await this.ask(asked, at);
     const [state, units, ...found] = answers.slice(commands.length).map(({ body }) => body);
     this.at = state.done;
     const logged = commands.map((command, index) => loggedOf(command, answers[index]));
@@ -80,7 +82,8 @@ export class Session {
     /** @type {View} */
     const view = {
       state, units: units.units, blocks: new Map(held), wordIn: (cell) => cells.get(cell) || ZERO,
-      altered: new Set(state.altered), field, ...(await this.momentOf(state, field)),
+      altered: new Set(state.altered), field, line, told: line ? answers[answers.length - 1] : null,
+      ...(await this.momentOf(state, field)),
     };
     return { answers, logged, view };
   }
@@ -180,10 +183,12 @@ export class Session {
     return moments.map((_, index) => found[2 * index + 1].cells.map(({ value }) => Number(value)));
   }
 
+  // The answer to a line that asks something of all changes.
+  async told(line) { return (await this.ask([repl(line)], this.total))[0]; }
+
   async mapWith(part) {
-    const { path, total } = this;
-    const [{ units }, ...bodies] = await this.bodies([["mix/units", {}], ...path.requestsTo(total)], total);
-    return { ...path.upTo(total, path.timesAt(total, bodies)), marks: await this.marksOf(part, units) };
+    const [{ body: { units } }, map] = await this.ask([["mix/units", {}], repl("show map")], this.total);
+    return { map, marks: await this.marksOf(part, units) };
   }
 
   // The last changes that wrote to units and to a part. Of a unit that only prints, no more are

@@ -4,23 +4,23 @@
 import { fourDigits, furnished, tenths } from "./dom.js";
 
 const PLACE = "http://www.w3.org/2000/svg";
-const LETTER = 6.7; // the width of a letter
+export const LETTER = 6.7; // the width of a letter
 const HIGH = 90; // of the highest bar
 const TOP = 30;
 const WIDE = 720; // of a strip and of a map
-const THICK = { "stroke-width": 2 };
-const BOLD = { "font-size": 11, "font-weight": "bold" };
+export const THICK = { "stroke-width": 2 };
+export const BOLD = { "font-size": 11, "font-weight": "bold" };
 const COLOURS = { ink: "#24211c", soft: "#5e5648", bar: "#224a69", mark: "#96281c", written: "#f6d98a" };
-const shape = (name, given, ...children) => furnished(document.createElementNS(PLACE, name), given, children);
-const solid = (kind) => ({ class: kind, fill: COLOURS[kind] });
-const lined = (kind, colour, more) => ({ class: kind, fill: "none", stroke: COLOURS[colour], ...more });
-const box = (x, y, width, height, more) => shape("rect", { x, y, width, height, ...more });
+export const shape = (name, given, ...children) => furnished(document.createElementNS(PLACE, name), given, children);
+export const solid = (kind) => ({ class: kind, fill: COLOURS[kind] });
+export const lined = (kind, colour, more) => ({ class: kind, fill: "none", stroke: COLOURS[colour], ...more });
+export const box = (x, y, width, height, more) => shape("rect", { x, y, width, height, ...more });
 const upright = (x, y2) => shape("line", { x1: x, x2: x, y1: 0, y2, ...lined("present", "mark", THICK) });
-const label = (x, y, text, kind, more = {}) => {
+export const label = (x, y, text, kind, more = {}) => {
   return shape("text", { x, y, ...solid(kind), "font-size": 10, "text-anchor": "middle", ...more }, text);
 };
 
-function picture({ id, title, text, width, height }, shapes) {
+export function picture({ id, title, text, width, height }, shapes) {
   const given = {
     viewBox: `0 0 ${Math.round(width)} ${Math.round(height)}`, width, height, role: "img",
     "aria-labelledby": `${id}-title ${id}-desc`, "font-family": "ui-monospace, Menlo, Consolas, monospace",
@@ -105,28 +105,26 @@ export function stripOf({ title, cells, columns, done }) {
   return picture({ id: "strip", title: name, text, width: columns.length * wide, height }, shapes);
 }
 
-// `counts` is how often a row was executed in each stretch of `width` changes; `marks` are parts,
-// each with the `numbers` of changes that wrote it, on a row of its own.
-export function mapOf({ title, text, rows, width, marks, total, done }) {
+// `boxes` of a row are those of its columns that are dark, of so many `columns` of the same width;
+// `marks` are parts, each with the `numbers` of changes that wrote it, on a row of its own.
+export function mapOf({ title, text, rows, columns, marks, total, done }) {
   const high = Math.max(3, Math.min(12, 300 / rows.length));
   const left = LETTER * Math.max(4, ...marks.map(({ part }) => part.length)) + 8;
-  const most = Math.log(1 + Math.max(...rows.map(({ counts }) => Math.max(...counts))));
-  const shade = (count) => (count === 0 ? 0 : Math.round(10 * (0.25 + (0.75 * Math.log(1 + count)) / most)) / 10);
   const every = Math.ceil(11 / high);
   const named = (y, name, kind) => label(left - 4, y, name, kind, { "text-anchor": "end" });
-  const boxes = new Map(); // of each shade all of them, which are one shape
-  const x = (column) => tenths(left + Math.min(WIDE, (column * width * WIDE) / total));
-  const shapes = rows.flatMap(({ cell, line, isBreak, counts }, row) => {
+  const outlines = new Map(); // of each shade all boxes, which are one shape
+  const x = (column) => tenths(left + (column * WIDE) / columns);
+  const shapes = rows.flatMap(({ cell, line, isBreak, boxes }, row) => {
     const y = 4 + row * high;
-    for (const [dark, from, to] of runsOf(counts.map(shade))) {
+    for (const { from, to, dark } of boxes) {
       const wide = tenths(x(to) - x(from));
-      boxes.set(dark, `${boxes.get(dark) || ""}M${x(from)} ${tenths(y)}h${wide}v${tenths(high)}h${-wide}z`);
+      outlines.set(dark, `${outlines.get(dark) || ""}M${x(from)} ${tenths(y)}h${wide}v${tenths(high)}h${-wide}z`);
     }
     const tint = isBreak ? [box(left, y, WIDE, high, { ...solid("mark"), "fill-opacity": ".15" })] : [];
     const name = named(y + Math.min(high, 10), line ? String(line) : fourDigits(cell), isBreak ? "mark" : "soft");
     return [...tint, ...(row % every === 0 ? [name] : [])];
   });
-  for (const [dark, d] of boxes) shapes.push(shape("path", { d, "fill-opacity": String(dark), ...solid("bar") }));
+  for (const [dark, d] of outlines) shapes.push(shape("path", { d, "fill-opacity": dark / 10, ...solid("bar") }));
   const foot = 4 + rows.length * high;
   marks.forEach(({ part, numbers }, row) => {
     const y = foot + 4 + row * 12;

@@ -5,6 +5,7 @@ type App = import("./app.js").App;
 type Store = import("./store.js").Store;
 type Session = import("./session.js").Session;
 type Listing = import("./listing.js").Listing;
+type Check = import("./check.js").Check;
 type Memory = import("./memory.js").Memory;
 
 interface Word { word: string; number: string; characters: string }
@@ -38,6 +39,8 @@ interface View {
   change: Change | null; // the last one that is done
   next: any; // the change that a step would be, or the fault that it would meet
   field: number; // of which cells and their changes have the numbers too
+  line: string; // that asks for what is drawn of this moment, if there is one
+  told: Answer; // the answer to it
   inField: { change: Change | null; next: any }; // both with the numbers of that field
   times: Uint32Array; // how often cells were executed
   units: Unit[];
@@ -53,7 +56,7 @@ interface View {
 interface Shown { answer: Answer | null; before: View | null; view: View; listing: Listing }
 
 // What a bundle holds, to be opened.
-interface Opened { source: string; deck: string; done: string[]; left: string[]; breaks: number[]; bars: string; score: string; shown: string[]; lesson: string }
+interface Opened { source: string; deck: string; done: string[]; left: string[]; breaks: number[]; bars: string; nodes: string; passages: string; names: string; score: string; shown: string[]; lesson: string }
 interface Parts { source: string; deck: string; script: string }
 interface Lesson { group: string; name: string; title: string; bundle: Parts; notes: string; answer: string; solution?: Parts }
 

@@ -75,7 +75,7 @@ def keys(page, native, count):
         count.row(f"keys: the tab key comes to {need}", need in seen, seen)
     for wanted in ("rA: who wrote it?", "Line 4, ", "overflow: who wrote it?"):
         count.row(f"keys: the tab key comes to {wanted}", any(name.startswith(wanted) for name in seen), seen)
-    count.row("keys: the registers are one stop", "rX: who wrote it?" not in seen and len(seen) < 42, (len(seen), seen))
+    count.row("keys: the registers are one stop", "rX: who wrote it?" not in seen and len(seen) < 45, (len(seen), seen))
     page.script("document.activeElement.blur()")
     for key in (Keys.F8, Keys.F8, Keys.F7):
         page.press(key)

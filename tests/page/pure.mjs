@@ -1,6 +1,7 @@
 // The modules of the page that need no page: node tests/page/pure.mjs [SEED]. The last line counts.
 import { readFileSync } from "node:fs";
 import { bundleOf, cardsApart, openedOf, partsOf, scriptOf, withCards } from "../../page/bundle.js";
+import { commandsFor, differenceIn, endOf, withData } from "../../page/check.js";
 import { grammarOf } from "../../page/colours.js";
 import { CARD, CHARACTERS, OPERATIONS, PSEUDO, explained, filled, takeTables } from "../../page/operations.js";
 import { upTo } from "../../page/range.js";
@@ -10,6 +11,7 @@ import { Session } from "../../page/session.js";
 import { bundleIn, fragmentOf } from "../../page/share.js";
 import { tooLarge } from "../../page/source.js";
 import { barsOf, stripOf, valuesOf } from "../../page/svg.js";
+import { tellings } from "./told.mjs";
 
 const packs = (() => { try { return new CompressionStream("deflate-raw"); } catch { return false; } })(); // not in Node 18
 const read = (name) => readFileSync(new URL(`../../${name}`, import.meta.url), "utf8");
@@ -49,6 +51,29 @@ const verdicts = (guesses, part, ...given) => guesses.map((guess) => verdictOn(g
 row("predict: numbers and bytes", verdicts(["-4097", "- 01 00 01", "-00 0 1 0 1", "4097", "01 00 01", "-64 1", "- 4097"], "A", "- 00 00 01 00 01", "-4097"), [true, true, true, false, false, false, true]);
 row("predict: -0", verdicts(["0", "-0", "- 0 0", "0 0", "x", "1 x", "--1"], "cell 5", "- 00 00 00 00 00", "-0"), [true, true, true, false, undefined, undefined, undefined]);
 row("predict: one of some", [verdicts(["less", "equal"], "cmp", "+ 00", "0"), verdicts(["on", "off"], "over", "+ 00", "0")], [[true, false], [true, false]]);
+
+// The cases of exercises: the data of a case, what is asked after its run, and the first that
+// differs, by grade/README.md and the replies of docs/FORMATS.md.
+const [HEAD, BLOCK, REST] = ["N       EQU  3\n", "* data\n        CON  1\n* end of data\n", "START   ENT1 N\n* end of it\n        END  START\n"];
+const OTHER = ["N       EQU  12\n", "* data\n        CON  7\n        CON  8\n* end of data\n"];
+row("cases: other data", [OTHER.join(""), OTHER[0], ""].map((data) => withData(HEAD + BLOCK + REST, data).source), [OTHER.join("") + REST, OTHER[0] + BLOCK + REST, HEAD + BLOCK + REST]);
+row("cases: a label is a word", ["N\tEQU 3\n", "NN EQU 3\n", " N EQU 3\n", "*N EQU 3\n"].map((line) => withData(line, OTHER[0])), [{ source: OTHER[0] }, ...["NN EQU 3\n", " N EQU 3\n", "*N EQU 3\n"].map((source) => ({ source, lacks: "N" }))]);
+row("cases: a line that is lacking", [HEAD + REST, HEAD + REST + BLOCK, BLOCK, HEAD + BLOCK.slice(0, 10) + REST].map((source) => withData(source, OTHER.join("")).lacks), ["* data", undefined, "N", "* end of data"]);
+row("cases: what is asked", [{ cells: "A\nSUM\nX+1 X+N\n", limits: "clock <= 5\n" }, { cells: "SUM\n" }, { unit: "18\n", limits: "clock <= 5\n" }].map(commandsFor), [["show values", "show values SUM SUM", "show values X+1 X+N", "show counts"], ["show values SUM SUM"], []]);
+const REGISTERS = 'A  + 00 00 00 01 33          97  "   A3"\nX  - 00 00 00 00 23         -23  "    T"\nI1 + 00 03                    3  " C"\n';
+const CELLS = '1002 + 00 00 00 00 33          33  "    3"\n1003 - 00 00 00 00 00          -0  "     "\n';
+const COUNTS = "         1           1  3000     15  START   ENT1 1            [1]\n         3           6  3003     18  SWAP    LDA  TABLE,1      [N//2]\n         3           3  3004     19          INC1 1\n         7          10  total\n";
+const [replies, halted] = [[REGISTERS, CELLS, COUNTS].map((result) => ({ success: true, body: { result } })), ["", "7", "3009", "63", "halt"]];
+const numbers = (wanted, limits) => differenceIn({ wanted, limits, cells: "X\nI1\nTABLE+3 TABLE+4\n" }, halted, limits ? replies : replies.slice(0, 2)) ?? null;
+row("cases: numbers", ["-23\n3\n33\n-0\n", "-23\n4\n33\n-0\n", "-23\n3\n33\n0\n", "-23\n3\n33\n-0\n5\n", "-23\n3\n33\n"].map((wanted) => numbers(wanted)), [null, { what: "rI1", found: "3", wanted: "4" }, { what: "cell 1003", found: "-0", wanted: "0" }, { what: "number 5", wanted: "5" }, { what: "cell 1003", found: "-0" }]);
+row("cases: limits", ["clock <= 63\nsteps >= 7\nSWAP = 3\n", "clock <= 62\n", "steps >= 8\n", "SWAP = 4\n", "NEXT <= 9\n"].map((limits) => numbers("-23\n3\n33\n-0\n", limits)), [null, { what: "the clock", wanted: "at most 62", found: "63" }, { what: "the number of steps", wanted: "at least 8", found: "7" }, { what: "the count of SWAP", wanted: "4", found: "3" }, { what: "the count of NEXT", wanted: "at most 9" }]);
+row("cases: a name that is lacking", differenceIn({ wanted: "5\n", cells: "SUM\n" }, halted, [{ success: false, body: {} }]), { what: "SUM, which the program lacks,", wanted: "5" });
+const written = (wanted, unit, units) => differenceIn({ wanted, unit }, halted, [{ success: true, body: { units } }]) ?? null;
+const printer = (rows, pages = []) => [{ unit: 8 }, { unit: 18, rows, pages }, { unit: 19, rows: ["TYPED"], pages: [] }];
+row("cases: rows", [["A", "  B"], ["A"], ["A", "B"], ["A", "  B", ""]].map((rows) => written("A\n  B\n", "18\n", printer(rows))), [null, { what: "row 2 of unit 18", wanted: "  B" }, { what: "row 2 of unit 18", found: "B", wanted: "  B" }, { what: "row 3 of unit 18", found: "" }]);
+row("cases: new pages, and a unit of several", [written("A\n", "18\n", printer(["A"], [0])), written("A\n", "18\n", printer(["A"], [1])), written("", undefined, printer([]))], [{ what: "row 1 of unit 18", found: "(new page) A", wanted: "A" }, { what: "row 2 of unit 18", found: "(new page) " }, { what: "row 1 of unit 19", found: "TYPED" }]);
+row("cases: how it ended", [halted, ["", "20000", "3009", "50000", "limit"], ["", "1", "0001", "1", "fault M5 no such cell"]].map((ran) => endOf(ran)), ["The run ended by HLT after 7 steps, clock 63 u.", "The run has not ended after 20,000 steps, the most of this case.", "The run ended after 1 step, at 0001, by the fault M5 no such cell."]);
+row("cases: before a conflict", endOf(halted, { location: 2, conflict: { text: "cell 0100 is used while unit 16 reads into it until 501" } }), "The run ended before a conflict at 0002: cell 0100 is used while unit 16 reads into it until 501.");
 
 // The first letters of a name that has this colour in the samples of the editors.
 const COLOURS = {
@@ -92,9 +117,9 @@ for (let round = 0; round < 20; round += 1) {
     const until = drawn(changes.length + 1);
     const times = path.timesAt(until, path.requestsTo(until).map(told));
     row("path: a moment", found(times), counted(until));
-    const { width, sums } = path.upTo(until, times);
-    row("path: columns", sums.map(found), sums.map((_, at) => counted(Math.min(until, at * width))));
-    row("path: of one width, not too many", [sums.length - 1 <= 480, sums.length - 1], [true, Math.ceil(until / width)]);
+    const { width, sums } = path;
+    row("path: columns", sums.map(found), sums.map((_, at) => counted(at * width)));
+    row("path: not too many", sums.length - 1 <= 480, true);
   }
 }
 row("cells of a range", [upTo(3, 5), upTo(3998, 5000), upTo(5, 4)], [[3, 4, 5], [3998, 3999], []]);
@@ -115,13 +140,14 @@ function toldOf(parts) {
 for (let round = 0; round < 200; round += 1) {
   const [source, cards] = [textOf(some(5, lineOf)), textOf(some(3, () => ["5", "", "A CARD"][drawn(3)]))];
   const done = some(4, () => ["step 4", "", "* mine"][drawn(3)]);
-  const kept = { left: some(2, () => "run 5"), breaks: some(3, () => 1 + drawn(99)), bars: ["", "KEY KEY+N number"][drawn(2)], score: ["", "3 of 5"][drawn(2)], shown: ["", "map no-words"][drawn(2)], lesson: ["", "05_a/b"][drawn(2)] };
+  const kept = { left: some(2, () => "run 5"), breaks: some(3, () => 1 + drawn(99)), bars: ["", "KEY KEY+N number"][drawn(2)], nodes: ["", "from A to B, 2 words each, links 0(4:5)"][drawn(2)], passages: ["", "line 5 of A assert A < 0"][drawn(2)], names: ["", "N=10"][drawn(2)], score: ["", "3 of 5"][drawn(2)], shown: ["", "map no-words"][drawn(2)], lesson: ["", "05_a/b"][drawn(2)] };
   const deck = textOf(some(4, () => ["%UNIT 19 delay 10", "B", ""][drawn(3)]));
   const parts = { source, deck, script: scriptOf({ done, ...kept }) };
   const bundle = bundleOf(parts);
   row("a bundle by its lines", [partsOf(bundle, toldOf(parts)), partsOf(bundle.replaceAll("\n", "\r\n"), toldOf(parts))], [parts, parts]);
   const { shown, ...opened } = openedOf(parts, false);
-  row("a bundle", opened, { source, deck, breaks: kept.breaks, bars: kept.bars, score: kept.score, lesson: kept.lesson, done, left: kept.left });
+  const { bars, nodes, passages, names, score, lesson } = kept;
+  row("a bundle", opened, { source, deck, breaks: kept.breaks, bars, nodes, passages, names, score, lesson, done, left: kept.left });
   row("a bundle: what is shown", shown.join(" "), kept.shown);
   row("a bundle that waits", openedOf(parts, true).left, [...done, ...kept.left]);
   const whole = withCards(deck, cards);
@@ -177,7 +203,7 @@ for (const ahead of [0, 4000]) {
     sent.push(...requests);
     return Object.assign(client, { holder }) && requests.map(() => ({ success: true, body: { ...body, writes: [...many] }, stopped: { reason: "exception" } }));
   } };
-  const asks = new Session(client, { source: " END 0\n", deck: "", cards: "A" }, () => ({ blocks: [["mix/units", { unit: 8, block: 0 }]], field: 13 }));
+  const asks = new Session(client, { source: " END 0\n", deck: "", cards: "A" }, () => ({ blocks: [["mix/units", { unit: 8, block: 0 }]], field: 13, line: "show nodes from 0 to 9, 1 words each, links 0(4:5)" }));
   await asks.begin();
   await asks.act(["run 5"], { met: 3 });
   await asks.slide(7);
@@ -185,6 +211,7 @@ for (const ahead of [0, 4000]) {
   await asks.values(["TABLE+1"]);
   await asks.cellsAt([1, 2], [10, 11], 5);
   await asks.mapWith("A");
+  await asks.told("show analysis");
   await asks.altersOf([100]);
   await asks.writesOf("cell 100");
 }
@@ -195,6 +222,7 @@ row("requests: those that look", [...new Set(sent.map(([name]) => name).filter((
 const element = (name) => ({ name, given: {}, inside: [], setAttribute(key, value) { this.given[key] = value; }, append(...more) { this.inside.push(...more); } });
 globalThis.document = { createElementNS: (_, name) => element(name) };
 const within = (shape, name) => [...(shape.name === name ? [shape.given] : []), ...(shape.inside || []).flatMap((each) => within(each, name))];
+tellings(row, within);
 const bars = [4, -2, 0].map((value, at) => ({ cell: 10 + at, value, text: String(value), isWritten: at === 1, was: at === 1 ? 8 : value, isNext: at === 2, will: at === 2 ? 6 : value }));
 const heights = within(barsOf({ title: "", text: "", bars, arrows: [] }), "rect").map(({ height }) => height);
 row("bars: of 8 to -2 in 90 points, a dashed one for what was, a hollow one for what will be", heights, [36, 18, 72, 0, 54]);

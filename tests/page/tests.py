@@ -5,6 +5,7 @@ import time
 import traceback
 
 import bars
+import cases
 import conflicts
 import details
 import frame
@@ -14,11 +15,13 @@ import kept
 import layout
 import looks
 import moment
+import nodes
 import nothing_lost
 import predict
 import repairs
 import says
 import seen
+import tables
 import tasks
 import timemap
 import tour
@@ -31,7 +34,7 @@ from firefox import Firefox
 from native import Count, Native
 from webkit import WebKit
 
-USES = (uses.examples, uses.breakpoints, uses.slider, uses.who, uses.faults, uses.cards, uses.share, looks.narrow, looks.keys, looks.names, looks.bounds, *repairs.REPAIRS, *says.SAYS, *guards.GUARDS, *layout.LAYOUT, *seen.SEEN, *typing_.TYPING, *bars.BARS, *conflicts.CONFLICTS, *timemap.MAP, *heat.HEAT, *kept.KEPT, *nothing_lost.LOST, *frame.FRAME, *moment.MOMENT, *predict.PREDICT, *tour.TOUR, *details.DETAILS, *two.TWO, seen.contrast, timemap.map_time, typing_.key_times, tasks.tasks)
+USES = (uses.examples, uses.breakpoints, uses.slider, uses.who, uses.faults, uses.cards, uses.share, looks.narrow, looks.keys, looks.names, looks.bounds, *repairs.REPAIRS, *says.SAYS, *guards.GUARDS, *layout.LAYOUT, *seen.SEEN, *typing_.TYPING, *bars.BARS, *cases.CASES, *conflicts.CONFLICTS, *nodes.NODES_DRAWN, *timemap.MAP, *tables.TABLES, *heat.HEAT, *kept.KEPT, *nothing_lost.LOST, *frame.FRAME, *moment.MOMENT, *predict.PREDICT, *tour.TOUR, *details.DETAILS, *two.TWO, seen.contrast, timemap.map_time, typing_.key_times, tasks.tasks)
 IN_CHROMIUM = (looks.names, timemap.map_time, typing_.key_times, seen.contrast, *frame.FRAME)  # what asks Chromium itself
 OTHERS = {"--webkit": WebKit, "--firefox": Firefox}
 WALKS = range(1, 13)
