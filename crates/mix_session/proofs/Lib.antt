@@ -10,6 +10,7 @@ mod KnownLemmas
 mod MarkLemmas
 mod MoveLemmas
 mod NamedLemmas
+mod PassagesLemmas
 mod PathLemmas
 mod PlacesLemmas
 mod PlainLemmas

@@ -19,6 +19,7 @@ pub mod Marks
 pub mod Named
 pub mod Names
 pub mod Operand
+pub mod Passages
 pub mod Path
 pub mod Plain
 pub mod Reply

@@ -12,6 +12,7 @@ mod conflicts;
 mod fault;
 mod keyword;
 mod laws;
+mod passages;
 mod past;
 mod path;
 mod reply;

@@ -1,23 +1,25 @@
 //! What is asked of the changes: the machine after each of them, what each did, how often each instruction was executed, and where,
-//! and which of them altered a part.
+//! which of them altered a part, and after which of them the machine is at a location.
 
-ghost use Rattle.std.specs.Prelude.{◌≡◌, ◌<◌, ℕ, IfErr, IfOk, length, min, string_bytes, take};
+ghost use Rattle.std.specs.Prelude.{◌≡◌, ◌<◌, ◌+◌, ℕ, IfErr, IfOk, length, min, string_bytes, take};
 ghost use Rattle.mix_session.specs.Change.{all_changes, world_at, change_line, change_text};
 ghost use Rattle.mix_session.specs.Counts.{tally_at, tally_of_all};
 ghost use Rattle.mix_session.specs.Client.{change_numbered, conflict_after};
+ghost use Rattle.mix_session.specs.Passages.{passages_back};
 ghost use Rattle.mix_session.specs.Path.{IsPath};
 ghost use Rattle.mix_session.specs.Tally.{tally_in};
 ghost use Rattle.mix_session.specs.Writes.{writes_back};
 
 use crate::altered::Worlds;
 use crate::conflicts::conflict_after;
+use crate::passages::passages_of;
 use crate::path::{Span, path_of};
 use crate::session::Session;
 use crate::show::changes;
 use crate::tally::{Tallies, tallies_of};
 use crate::timeline;
 use crate::writes::{Write, writes_of};
-use mix_machine::{Change, Conflict, Part, World};
+use mix_machine::{Change, Conflict, Part, Place, World};
 use std::alloc::Global;
 use undo_core::Memory;
 
@@ -79,6 +81,14 @@ impl Session {
         ensures memory { IfErr result (λ _. (0 < most) × (0 < length self.now.timeline.changes)) }
     {
         writes_of(alloc, self.journal(), &part, until, most)
+    }
+
+    /// The states in which the machine is at a location, of those up to now: how many changes led to each, the last one first. Only out of
+    /// memory refuses it.
+    pub fn passages(&self, alloc: Global, place: Place) -> Result<Vec<usize>, Memory>
+        ensures { IfOk result (λ list. list.items ≡ passages_back self.now.timeline place (length self.now.timeline.changes + 1)) }
+    {
+        passages_of(alloc, self.journal(), place)
     }
 }
 
