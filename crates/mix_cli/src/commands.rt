@@ -22,10 +22,13 @@ prints. With --registers the lines of `show regs` are written at the end. With
 with --devices. With --svg the picture has the lines of the source against the
 steps of the run: darker where a line was executed more often.
 With --counts a table has a row for each instruction that was executed: the line
-of the source, the location, how often, and the time in u. With --writes it has
-a row for each change of a part, with its values before and after. With --trace
-and one of --csv, --json and --latex it has a row for each step. A run with
---svg or --counts keeps its history, so a program without an end needs --steps.
+of the source, the location, how often, and the time in u. With --formulas it
+has one for each line with a formula in brackets, such as [N-1]: how often it
+was executed, the value of the formula, and whether they agree. With --writes it
+has a row for each change of a part, with its values before and after. With
+--trace and one of --csv, --json and --latex it has a row for each step. A run
+with --svg, --counts or --formulas keeps its history, so a program without an
+end needs --steps.
 A bundle may take the place of a source: its deck is taken, unless --devices
 names another, and its script is left out.
 
@@ -117,7 +120,7 @@ const DEVICES: Argument<'static> = Argument {
     help: "The deck: what tapes, disks and cards hold at first",
 };
 
-const RUN_ARGUMENTS: [Argument<'static>; 16] = [
+const RUN_ARGUMENTS: [Argument<'static>; 17] = [
     SOURCE,
     Argument {
         name: "cards",
@@ -169,6 +172,11 @@ const RUN_ARGUMENTS: [Argument<'static>; 16] = [
         name: "counts",
         kind: Kind::Flag,
         help: "Writes no rows, but how often each line was executed",
+    },
+    Argument {
+        name: "formulas",
+        kind: Kind::Names,
+        help: "Writes no rows, but formulas beside counts: N=10,A=1",
     },
     Argument {
         name: "writes",

@@ -12,7 +12,8 @@ use clap::{Arg, ArgAction, Command};
 use std::alloc::{AllocError, Global};
 
 /// What an argument is: a word that is needed, one or more such words, or one that may be left out;
-/// a flag; or an option with a file, a part of the machine, a number in a range, or several numbers.
+/// a flag; or an option with a file, a part of the machine, values of names, a number in a range, or
+/// several numbers.
 #[derive(Clone, Copy)]
 pub enum Kind {
     Needed,
@@ -21,6 +22,7 @@ pub enum Kind {
     Flag,
     File,
     Part,
+    Names,
     Number(u64, u64),
     Numbers(u64, u64),
 }
@@ -55,6 +57,7 @@ fn arg_of<'a>(alloc: Global, argument: &Argument<'a>) -> Arg<'a>
         Kind::Flag => arg.long(name).action(ArgAction::SetTrue),
         Kind::File => arg.long(name).value_name("FILE"),
         Kind::Part => arg.long(name).value_name("PART"),
+        Kind::Names => arg.long(name).value_name("NAMES"),
         Kind::Number(from, to) => arg
             .long(name)
             .value_name("N")

@@ -2,6 +2,7 @@ mod CheckLemmas
 mod CountedLemmas
 mod DebugLemmas
 mod DrawnLemmas
+mod FormulaLemmas
 mod HearingLemmas
 mod KeepLemmas
 mod PlainLemmas

@@ -142,6 +142,7 @@ with_part asked (Err refusal) = Err refusal
 
 abbrev pub table_of : TableOf → AskedTable → Result Part Refusal → Result (Option StepTable) Refusal
 table_of of.Counts asked part = Ok None
+table_of of.Formulas asked part = Ok None
 table_of of.Trace asked part = Ok (Some (record { format = asked.format; part = None }))
 table_of of.Writes asked part = with_part asked part
 

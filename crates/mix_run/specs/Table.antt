@@ -1,5 +1,5 @@
 -- A table of numbers and texts as CSV, JSON or LaTeX.
-use Rattle.std.specs.Prelude.{ℕ, ◌+◌, ◌/◌, ◌%◌, ◌==◌, ◌||◌, Bool, true, false, nat_lt, List, [], ◌∷◌, ◌++◌, codes, length, flat_map, get_or, if◌then◌else◌}
+use Rattle.std.specs.Prelude.{ℕ, ℤ, pos, negsuc, ◌+◌, ◌/◌, ◌%◌, ◌==◌, ◌||◌, Bool, true, false, nat_lt, List, [], ◌∷◌, ◌++◌, codes, length, flat_map, get_or, if◌then◌else◌}
 use Rattle.std.specs.Fmt.{decimal}
 use Rattle.std.specs.List.{list_any, range_with_len}
 use Rattle.mix_word.specs.Word.{WordValue}
@@ -10,16 +10,18 @@ use Rattle.mix_run.specs.declared.table.field.Kind.TheVariants as kind
 use Rattle.mix_run.specs.declared.table.TableFormat.{TableFormat}
 use Rattle.mix_run.specs.declared.table.TableFormat.TheVariants.{Csv, Json, Latex}
 
--- a field of a table: a number, a word as a number with its sign, a text, or nothing
+-- a field of a table: a number, a word as a number with its sign, a whole number, a text, or nothing
 pub data FieldValue : Type 0 where
   Number : ℕ → FieldValue
   Signed : WordValue → FieldValue
+  Whole : ℤ → FieldValue
   Text : List ℕ → FieldValue
   Missing : FieldValue
 
 abbrev pub value_of : Kind → FieldValue
 value_of (kind.Number n) = Number n
 value_of (kind.Signed word) = Signed word
+value_of (kind.Whole number) = Whole number
 value_of (kind.Text text) = Text text.now
 value_of kind.Missing = Missing
 
@@ -98,9 +100,18 @@ after_digits Latex Minus = codes "$"
 unfoldable pub signed_field : TableFormat → WordValue → List ℕ
 signed_field format word = before_digits format word.sign ++ (decimal word.magnitude ++ after_digits format word.sign)
 
+-- a whole number: 0 has no sign
+abbrev pub sign_of : ℤ → Sign
+sign_of (pos n) = Plus
+sign_of (negsuc n) = Minus
+
+unfoldable pub whole_field : TableFormat → ℤ → List ℕ
+whole_field format number = before_digits format (sign_of number) ++ (decimal (unsigned_abs number) ++ after_digits format (sign_of number))
+
 abbrev pub field_text : TableFormat → FieldValue → List ℕ
 field_text format (Number n) = decimal n
 field_text format (Signed word) = signed_field format word
+field_text format (Whole number) = whole_field format number
 field_text format (Text text) = text_of format text
 field_text format Missing = missing_text format
 

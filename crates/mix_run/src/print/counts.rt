@@ -1,4 +1,4 @@
-//! A program run in a session, and a table of how often each instruction was executed, and how long that took.
+//! A program run in a session, and the table at its end: that of how often each instruction was executed, and how long that took, or that of the formulas.
 ghost use Rattle.std.specs.Prelude.{◌≡◌, ◌<◌, ◌++◌, ◌-◌, ◌^◌, ◌==◌, ◌&&◌, [], IfOk, OnOk, min, true};
 ghost use Rattle.mix_session.specs.Command.{after};
 ghost use Rattle.mix_session.specs.Session.{opened};
@@ -13,6 +13,7 @@ ghost use Rattle.mix_run.specs.declared.print.PrintAnswer.TheVariants.{Ran};
 use crate::fault::ToolFault;
 use crate::print::Printed;
 use crate::print::drawn::draw_if;
+use crate::print::end_table::EndTable;
 use crate::print::loaded::left;
 use crate::print::options::PrintOptions;
 use crate::print::sheet::{Sheet, line_field};
@@ -29,23 +30,23 @@ use std::alloc::Global;
 /// The most steps that are counted.
 const MAX_COUNTED: u64 = 4_294_967_295;
 
-/// A program, run in a session, and the table of its counts.
+/// A program, run in a session, and the table at its end.
 #[tactic(auto, unfolding(crate::specs::PrintOutput::counted_outcome, crate::specs::Counted::counted_run))]
 pub(super) fn count_loaded<W: Out>(
     alloc: Global,
     program: Program,
     units: Units,
-    format: TableFormat,
+    table: &EndTable<'_>,
     options: PrintOptions,
     out: &mut W,
 ) -> Result<Printed, ToolFault>
     requires { W.failed out.old < 2 ^ 64 - 1 }
-    ensures { Leaves (counted_outcome format options program units)
+    ensures { Leaves (counted_outcome table.now options program units)
         (DrawnIf options.map program (after (counted_steps options.steps (opened program units).timeline))) result
         (W.told out.old) (W.failed out.old) (W.told out.new) (W.failed out.new) }
 {
     let mut session = Session::open(alloc, program, units)?;
-    let made = counted(alloc, &mut session, format, options)?;
+    let made = counted(alloc, &mut session, table, options)?;
     let (text, printed) = made;
     write_all(out, &text)?;
     Ok(printed)
@@ -55,15 +56,15 @@ pub(super) fn count_loaded<W: Out>(
 fn counted(
     alloc: Global,
     session: &mut Session,
-    format: TableFormat,
+    table: &EndTable<'_>,
     options: PrintOptions,
 ) -> Result<(Vec<u8>, Printed), Memory>
-    ensures { let run = counted_run format options.steps session.old in let program = session.old.program in
+    ensures { let run = counted_run table.now options.steps session.old in let program = session.old.program in
         IfOk result (λ r. (r.0.items ≡ run.bytes) × (r.1.answer ≡ Ran (ran_to program run)) × (r.1.deck.items ≡ kept_if options.keep run.world)
         × DrawnIf options.map program (after (counted_steps options.steps session.old.timeline)) r.1.map.items) }
 {
     let end = run_steps(session, options.steps)?;
-    let text = counts_table(alloc, session, format)?;
+    let text = table.text(alloc, session)?;
     let map = draw_if(alloc, session, options.map)?;
     let stepped = Stepped::alone(end);
     let printed = left(
@@ -111,9 +112,13 @@ fn run_end(end: End) -> RunEnd
     }
 }
 
-// The table of all cells.
+/// The table of all cells.
 #[tactic(auto, unfolding(crate::specs::Counted::counts_table, crate::specs::Table::table_text))]
-fn counts_table(alloc: Global, session: &Session, format: TableFormat) -> Result<Vec<u8>, Memory>
+pub(super) fn counts_table(
+    alloc: Global,
+    session: &Session,
+    format: TableFormat,
+) -> Result<Vec<u8>, Memory>
     ensures { IfOk result (λ text. text.items ≡ counts_table format session.now.program session.now.timeline) }
 {
     let tallies = session.counts(alloc)?;

@@ -1,7 +1,7 @@
 //! A field of a table, and what is written of it.
 ghost use Rattle.std.specs.Prelude.{◌≡◌, ◌++◌, OnOk};
 ghost use Rattle.std.specs.Fmt.{decimal};
-ghost use Rattle.mix_run.specs.Table.{FieldValue, after_digits, before_digits, field_text, missing_text, name_text, signed_field};
+ghost use Rattle.mix_run.specs.Table.{FieldValue, after_digits, before_digits, field_text, missing_text, name_text, sign_of, signed_field, whole_field};
 ghost use Rattle.mix_run.specs.Table.FieldValue.{Missing};
 
 use crate::table::TableFormat;
@@ -16,11 +16,12 @@ use std::marker::Model;
 enum Kind<'a> {
     Number(u128),
     Signed(Word),
+    Whole(i64),
     Text(&'a [u8]),
     Missing,
 }
 
-/// A field of a table: a number, a word as a number with its sign, a text, or nothing.
+/// A field of a table: a number, a word as a number with its sign, a whole number, a text, or nothing.
 #[derive(Drop)]
 pub(crate) struct Field<'a> {
     kind: Kind<'a>,
@@ -48,6 +49,14 @@ impl<'a> Field<'a> {
     {
         Field {
             kind: Kind::Signed(word),
+        }
+    }
+
+    pub(crate) const fn whole(number: i64) -> Field<'a>
+        ensures { result ≡ FieldValue.Whole number }
+    {
+        Field {
+            kind: Kind::Whole(number),
         }
     }
 
@@ -99,6 +108,7 @@ pub(super) fn add_field(
     match &field.kind {
         Kind::Number(number) => add_number(alloc, text, *number),
         Kind::Signed(word) => add_signed(alloc, text, format, *word),
+        Kind::Whole(number) => add_whole(alloc, text, format, *number),
         Kind::Text(bytes) => add_text(text, format, bytes),
         Kind::Missing => {
             text.extend_from_slice(missing(format))?;
@@ -138,6 +148,29 @@ fn add_signed(
     add_number(alloc, text, u128::from(word.magnitude()))?;
     text.extend_from_slice(after_digits(format, word.sign()))?;
     Ok(())
+}
+
+// A whole number, with a minus if it is negative.
+#[tactic(auto, unfolding(crate::specs::Table::whole_field))]
+fn add_whole(
+    alloc: Global,
+    text: &mut Vec<u8>,
+    format: TableFormat,
+    number: i64,
+) -> Result<(), Memory>
+    ensures { OnOk result (text.new.items ≡ text.old.items ++ whole_field format number) }
+{
+    let sign = sign_of(number);
+    text.extend_from_slice(before_digits(format, sign))?;
+    add_number(alloc, text, u128::from(number.unsigned_abs()))?;
+    text.extend_from_slice(after_digits(format, sign))?;
+    Ok(())
+}
+
+fn sign_of(number: i64) -> Sign
+    ensures { result ≡ sign_of number }
+{
+    if number < 0 { Sign::Minus } else { Sign::Plus }
 }
 
 fn before_digits(format: TableFormat, sign: Sign) -> &'static [u8]
