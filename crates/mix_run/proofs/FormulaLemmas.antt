@@ -8,15 +8,17 @@ use Rattle.std.specs.Str.{IsUtf8, is_utf8}
 use Rattle.mix_formula.specs.Found.{all_values}
 use Rattle.mix_formula.specs.Given.{given_of}
 use Rattle.mix_formula.specs.Names.{NameValue, all_named, named}
-use Rattle.mix_formula.specs.Rows.{RowValue}
+use Rattle.mix_formula.specs.Rows.{RowValue, all_rows, row_value}
 use Rattle.mix_formula.specs.declared.names.Named.{Named}
+use Rattle.mix_formula.specs.declared.rows.Row.{Row}
 use Rattle.mix_session.specs.Session.{SessionState}
 use Rattle.mix_views.specs.Analysis.{given_first, given_in, given_onto, rows_in}
 use Rattle.mixal_text.specs.Part.{is_comma}
 use Rattle.mixal_text.specs.Words.{pieces_of}
-use Rattle.mix_run.specs.Formulas.{formula_field, formula_names, formula_rows, formulas_table}
-use Rattle.mix_run.specs.Table.{FieldValue, Text, Missing, footer_text, header_text, rows_text, table_text}
+use Rattle.mix_run.specs.Formulas.{formula_field, formula_names, formula_row, formula_rows, formulas_table}
+use Rattle.mix_run.specs.Table.{FieldValue, Text, Missing, footer_text, header_text, row_text, rows_text, table_text}
 use Rattle.mix_run.specs.declared.table.TableFormat.{TableFormat}
+use Rattle.mix_run.proofs.KeepLemmas.{added-all, added-more}
 
 -- ---- the values that are given
 
@@ -68,6 +70,22 @@ missing-field formula never = go (is_utf8 formula) refl
     go : (b : Bool) → is_utf8 formula ≡ b → Missing ≡ (if b then Text formula else Missing)
     go true e = absurd (never (IsUtf8-from_is_utf8 formula e))
     go false e = refl
+
+-- a row more, and no more
+pub row-added : (format : TableFormat) (names : List FieldValue) (first : Bool) (values : List NameValue) (rest after : List Row) (row : Row) (text new whole : List ℕ)
+    → text ++ rows_text format names first (formula_rows values (all_rows rest)) ≡ whole → rest ≡ row ∷ after
+    → new ≡ text ++ row_text format names first (formula_row values (row_value row))
+    → new ++ rows_text format names false (formula_rows values (all_rows after)) ≡ whole
+row-added format names first values rest after row text new whole so_far cut added =
+    added-more text new (row_text format names first (formula_row values (row_value row))) _ _ whole so_far
+    (ap (λ rows. rows_text format names first (formula_rows values (all_rows rows))) cut) added
+
+pub rows-done : (format : TableFormat) (names : List FieldValue) (first : Bool) (values : List NameValue) (rest : List Row) (text whole : List ℕ)
+    → text ++ rows_text format names first (formula_rows values (all_rows rest)) ≡ whole → rest ≡ [] → text ≡ whole
+rows-done format names first values rest text whole so_far none =
+    added-all text _ whole so_far (ap (λ rows. rows_text format names first (formula_rows values (all_rows rows))) none)
+
+pub ruleset rows = (row-added, rows-done)
 
 -- what is before the rows, the rows, and what is after them
 pub formulas-made : (format : TableFormat) (s : SessionState) (given values : List NameValue) (rows : List RowValue) (names : List FieldValue) (none begun filled whole : List ℕ)

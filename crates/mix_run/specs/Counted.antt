@@ -1,5 +1,5 @@
 -- What a run writes whose steps are counted: a table with a row for each cell whose instruction was executed, or that of the formulas.
-use Rattle.std.specs.Prelude.{ℕ, zero, suc, ◌+◌, ◌==◌, List, [], ◌∷◌, ◌++◌, codes, Option, Some, None, option_map, Result, Ok, Err, if◌then◌else◌, min}
+use Rattle.std.specs.Prelude.{ℕ, zero, suc, ◌+◌, ◌==◌, List, [], ◌∷◌, ◌++◌, codes, Option, Some, None, Result, Ok, Err, if◌then◌else◌, min}
 use Rattle.mix_formula.specs.Names.{NameValue}
 use Rattle.mixal_asm.specs.Program.{ProgramValue}
 use Rattle.mix_session.specs.Command.{Effect, after, effect_of_run}

@@ -1,7 +1,9 @@
 //! The table of the formulas: how often each line was executed that has a formula in brackets, beside the formula's value.
 ghost use Rattle.std.specs.Prelude.{◌≡◌, ◌++◌, IfOk, OnOk};
+ghost use Rattle.mix_formula.specs.Found.{is_count};
 ghost use Rattle.mix_formula.specs.Names.{all_named};
 ghost use Rattle.mix_formula.specs.Rows.{all_rows, formula_of, row_value};
+ghost use Rattle.mix_formula.specs.declared.value.Value.TheVariants.{Known};
 ghost use Rattle.mix_run.specs.Formulas.{fits_field, fits_text, formula_field, formula_row, formula_rows, formulas_table, value_field};
 ghost use Rattle.mix_run.specs.Table.{rows_text};
 
@@ -126,9 +128,11 @@ fn fits_field(value: Value, count: u64) -> Field<'static>
 fn fits_text(number: i64, count: u64) -> &'static [u8]
     ensures { result.now ≡ fits_text number count }
 {
-    if number >= 0 && number as u64 == count {
-        b"yes"
-    } else {
-        b"no"
-    }
+    if is_count(number, count) { b"yes" } else { b"no" }
+}
+
+fn is_count(number: i64, count: u64) -> bool
+    ensures { result ≡ is_count (Known number) count }
+{
+    number >= 0 && number as u64 == count
 }
