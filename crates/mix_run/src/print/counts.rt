@@ -53,10 +53,10 @@ pub(super) fn count_loaded<W: Out>(
 }
 
 // The table of a session after its steps, and what is left of it.
-fn counted(
+fn counted<'a>(
     alloc: Global,
-    session: &mut Session,
-    table: &EndTable<'_>,
+    session: &'a mut Session,
+    table: &EndTable<'a>,
     options: PrintOptions,
 ) -> Result<(Vec<u8>, Printed), Memory>
     ensures { let run = counted_run table.now options.steps session.old in let program = session.old.program in

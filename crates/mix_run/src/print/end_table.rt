@@ -1,6 +1,7 @@
 //! The table that is written at the end of a run: that of the counts, or that of the formulas.
 ghost use Rattle.std.specs.Prelude.{◌≡◌, IfOk};
 ghost use Rattle.mix_run.specs.Counted.{end_table_asked, end_text, with_given};
+ghost use Rattle.mix_run.specs.Formulas.{given_by};
 
 use crate::print::counts::counts_table;
 use crate::print::formulas::formulas_table;
@@ -31,9 +32,9 @@ impl<'a> Model for EndTable<'a> {
     ghost view = { λ t. record { format = t.format; given = option_map (λ given. all_named given.items) t.given } };
 }
 
-impl EndTable<'_> {
+impl<'a> EndTable<'a> {
     /// The table of a session, by the changes done.
-    pub(super) fn text(&self, alloc: Global, session: &Session) -> Result<Vec<u8>, Memory>
+    pub(super) fn text(&self, alloc: Global, session: &'a Session) -> Result<Vec<u8>, Memory>
         ensures { IfOk result (λ text. text.items ≡ end_text self.now session.now.program session.now.timeline) }
     {
         match &self.given {

@@ -1,5 +1,5 @@
 //! The table of the formulas: how often each line was executed that has a formula in brackets, beside the formula's value.
-ghost use Rattle.std.specs.Prelude.{◌≡◌, ◌++◌, IfOk, OnOk};
+ghost use Rattle.std.specs.Prelude.{◌≡◌, ◌++◌, IfOk, OnOk, true};
 ghost use Rattle.mix_formula.specs.Found.{is_count};
 ghost use Rattle.mix_formula.specs.Names.{all_named};
 ghost use Rattle.mix_formula.specs.Rows.{all_rows, formula_of, row_value};
@@ -17,11 +17,11 @@ use std::alloc::Global;
 
 /// The table of a session, by the values that are given to names.
 #[tactic(auto, unfolding(crate::specs::Formulas::formulas_table, crate::specs::Table::table_text))]
-pub(super) fn formulas_table(
+pub(super) fn formulas_table<'a>(
     alloc: Global,
-    session: &Session,
+    session: &'a Session,
     format: TableFormat,
-    given: &[Named<'_>],
+    given: &[Named<'a>],
 ) -> Result<Vec<u8>, Memory>
     ensures { IfOk result (λ text. text.items ≡ formulas_table format (all_named given.now) session.now.program session.now.timeline) }
 {
@@ -128,7 +128,11 @@ fn fits_field(value: Value, count: u64) -> Field<'static>
 fn fits_text(number: i64, count: u64) -> &'static [u8]
     ensures { result.now ≡ fits_text number count }
 {
-    if is_count(number, count) { b"yes" } else { b"no" }
+    if is_count(number, count) {
+        b"yes"
+    } else {
+        b"no"
+    }
 }
 
 fn is_count(number: i64, count: u64) -> bool
