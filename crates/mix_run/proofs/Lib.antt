@@ -4,6 +4,7 @@ mod DebugLemmas
 mod DrawnLemmas
 mod HearingLemmas
 mod KeepLemmas
+mod ObjectLemmas
 mod PlainLemmas
 mod PrintLemmas
 mod PrintRunLemmas

@@ -13,7 +13,7 @@ use Rattle.mix_session.specs.declared.reply.End.{End}
 use Rattle.mix_session.specs.declared.reply.End.TheVariants as ends
 use Rattle.mix_session.specs.declared.tally.Tally.{Tally}
 use Rattle.mix_run.specs.Print.{Run, line_at}
-use Rattle.mix_run.specs.Table.{FieldValue, Number, Text, Missing, table_text}
+use Rattle.mix_run.specs.Table.{FieldValue, Text, Missing, table_text, unsigned}
 use Rattle.mix_run.specs.declared.print.steps.RunEnd.{RunEnd}
 use Rattle.mix_run.specs.declared.print.steps.RunEnd.TheVariants.{Halted, Faulted, UsedUp}
 use Rattle.mix_run.specs.declared.table.TableFormat.{TableFormat}
@@ -46,11 +46,11 @@ count_names = Text (codes "line") ∷ Text (codes "location") ∷ Text (codes "c
 
 abbrev pub number_or : Option ℕ → FieldValue
 number_or None = Missing
-number_or (Some n) = Number n
+number_or (Some n) = unsigned n
 
 -- the row of a cell: the line of the source that put its word there, its location, how often it was executed, and how long that took
 abbrev pub count_row : ProgramValue → Tally → ℕ → List FieldValue
-count_row program tally p = number_or (line_at program p) ∷ Number p ∷ Number tally.count ∷ Number tally.time ∷ []
+count_row program tally p = number_or (line_at program p) ∷ unsigned p ∷ unsigned tally.count ∷ unsigned tally.time ∷ []
 
 -- the row of a cell, if it was executed
 abbrev pub count_rows_at : ProgramValue → Tally → ℕ → List (List FieldValue)

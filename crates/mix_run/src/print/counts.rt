@@ -118,10 +118,10 @@ fn counts_table(alloc: Global, session: &Session, format: TableFormat) -> Result
 {
     let tallies = session.counts(alloc)?;
     let names = [
-        Field::text(b"line"),
-        Field::text(b"location"),
-        Field::text(b"count"),
-        Field::text(b"time"),
+        Field::text("line"),
+        Field::text("location"),
+        Field::text("count"),
+        Field::text("time"),
     ];
     let sheet = Sheet {
         program: session.program(),
@@ -129,7 +129,7 @@ fn counts_table(alloc: Global, session: &Session, format: TableFormat) -> Result
         names: &names,
     };
     let mut text = Vec::new(alloc);
-    add_header(alloc, &mut text, format, b"rrrr", &names)?;
+    add_header(alloc, &mut text, format, "rrrr", &names)?;
     add_rows(alloc, &sheet, &tallies.cells, CELLS, &mut text)?;
     add_footer(&mut text, format)?;
     Ok(text)
