@@ -113,11 +113,7 @@ fn place_at(number: u16) -> Place
     }
 }
 
-fn add_source<'a>(
-    source: &'a Source,
-    tally: Tally,
-    rows: &mut Vec<Row<'a>>,
-) -> Result<(), Memory>
+fn add_source<'a>(source: &'a Source, tally: Tally, rows: &mut Vec<Row<'a>>) -> Result<(), Memory>
     ensures { OnOk result (all_rows rows.new.items ≡ all_rows rows.old.items ++ row_of tally (source_value source.now)) }
 {
     match source {

@@ -22,11 +22,7 @@ use std::alloc::Global;
 /// What a line `show nodes ..`, `show passages ..`, `show analysis ..` or `show map` says (2.2.3, 1.2.1, 1.3.2); none for any other line, and for one
 /// whose words say nothing. Only out of memory refuses it.
 #[tactic(auto, unfolding(crate::specs::View::view_in))]
-pub fn view_of(
-    alloc: Global,
-    session: &Session,
-    typed: &[u8],
-) -> Result<Option<Vec<u8>>, Memory>
+pub fn view_of(alloc: Global, session: &Session, typed: &[u8]) -> Result<Option<Vec<u8>>, Memory>
     ensures { IfOk result (λ said. option_map (λ text. text.items) said ≡ view_in session.now (words typed.now)) }
 {
     let Some((command, rest)) = next_word(typed) else {
@@ -83,11 +79,7 @@ fn nodes_view(
     }
 }
 
-fn passages_view(
-    alloc: Global,
-    session: &Session,
-    rest: &[u8],
-) -> Result<Option<Vec<u8>>, Memory>
+fn passages_view(alloc: Global, session: &Session, rest: &[u8]) -> Result<Option<Vec<u8>>, Memory>
     ensures { IfOk result (λ said. option_map (λ text. text.items) said ≡ passages_view session.now (words rest.now)) }
 {
     match read_passages(alloc, session, rest)? {

@@ -31,12 +31,7 @@ pub(crate) fn map_text(alloc: Global, session: &Session) -> Result<Vec<u8>, Memo
 }
 
 #[tactic(auto, unfolding(crate::specs::Map::map_lines))]
-fn map_lines(
-    alloc: Global,
-    total: usize,
-    columns: u16,
-    map: &RunMap,
-) -> Result<Vec<u8>, Memory>
+fn map_lines(alloc: Global, total: usize, columns: u16, map: &RunMap) -> Result<Vec<u8>, Memory>
     ensures { IfOk result (λ text. text.items ≡ map_lines total columns (map_seen map.now)) }
 {
     let mut text = head_text(alloc, total, columns, map.found)?.into_bytes();
@@ -44,12 +39,7 @@ fn map_lines(
     Ok(text)
 }
 
-fn head_text(
-    alloc: Global,
-    total: usize,
-    columns: u16,
-    found: usize,
-) -> Result<String, AllocError>
+fn head_text(alloc: Global, total: usize, columns: u16, found: usize) -> Result<String, AllocError>
     ensures { IfOk result (λ s. string_bytes s ≡ head_text total columns found) }
 {
     let text = format!(in alloc; "map {total} changes, {columns} columns, {found} rows\n")?;
@@ -69,12 +59,7 @@ fn add_rows(rows: &[MapRow], boxes: &[MapBox], text: &mut Vec<u8>) -> Result<(),
 }
 
 // The line of the row of a number.
-fn add_row(
-    row: &MapRow,
-    number: usize,
-    boxes: &[MapBox],
-    text: &mut Vec<u8>,
-) -> Result<(), Memory>
+fn add_row(row: &MapRow, number: usize, boxes: &[MapBox], text: &mut Vec<u8>) -> Result<(), Memory>
     ensures { OnOk result (text.new.items ≡ text.old.items ++ row_text boxes.now number row.now) }
 {
     let alloc = *text.allocator();
