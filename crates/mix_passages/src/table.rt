@@ -9,7 +9,7 @@ use crate::assertion::holds;
 use crate::item::word_of;
 use crate::text::add_right;
 use mix_machine::World;
-use mix_session::Session;
+use mix_session::{Moments, Session};
 use mix_word::Number;
 use std::alloc::{AllocError, Global};
 use undo_core::Memory;
@@ -128,16 +128,18 @@ fn add_row_of(
     Ok(())
 }
 
+// Appends the row of a state; in rising order no change is done twice.
 fn add_row(
     text: &mut Vec<u8>,
-    session: &Session,
+    moments: &mut Moments<'_>,
     asked: &Passages,
     number: usize,
 ) -> Result<(), Memory>
-    ensures { OnOk result (text.new.items ≡ text.old.items ++ row_at session.now.timeline asked.now number) }
+    ensures text { OnOk result (text.new.items ≡ text.old.items ++ row_at moments.old.of asked.now number) }
+    ensures of { moments.new.of ≡ moments.old.of }
 {
-    let world = session.world_at(*text.allocator(), number)?;
-    add_row_of(text, asked, &world, number)?;
+    moments.come_to(*text.allocator(), number)?;
+    add_row_of(text, asked, moments.world(), number)?;
     Ok(())
 }
 
@@ -149,9 +151,10 @@ fn add_rows(
 ) -> Result<(), Memory>
     ensures { OnOk result (text.new.items ≡ text.old.items ++ flat_map (row_at session.now.timeline asked.now) states.now) }
 {
+    let mut moments = session.moments(*text.allocator())?;
     let mut rest = states;
     while let [number, after @ ..] = rest {
-        add_row(text, session, asked, *number)?;
+        add_row(text, &mut moments, asked, *number)?;
         rest = after;
     }
     Ok(())

@@ -8,8 +8,9 @@ use Rattle.mix_machine.specs.World.{WorldState}
 use Rattle.mix_machine.specs.Do.{does}
 use Rattle.mix_machine.specs.declared.old.Change.{Change}
 use Rattle.mix_machine.specs.declared.old.Change.TheVariants.{Step}
-use Rattle.mix_session.specs.Change.{world_at, change_at, change_line, change_line_at, chosen_line_at, is_chosen}
+use Rattle.mix_session.specs.Change.{all_changes, world_at, change_at, change_line, change_line_at, chosen_line_at, is_chosen}
 use Rattle.mix_session.specs.Each.{texts}
+use Rattle.mix_session.specs.Moments.{IsMoment}
 use Rattle.mix_session.specs.Timeline.{Timeline, world_of}
 use Rattle.mix_session.specs.declared.condition.Condition.{Condition}
 use Rattle.mix_session.proofs.ConditionLemmas.{last-given}
@@ -33,6 +34,11 @@ world_at-all t n m all w e f stands =
     let same : take n (t.changes ++ t.ahead) ≡ take m (t.changes ++ t.ahead) =
     sym (take_min n (t.changes ++ t.ahead)) ∙ ap (λ (k : ℕ). take k (t.changes ++ t.ahead)) (sym least) in
     world_at-is t n w (ap (replay does t.first) same ∙ stands)
+
+-- the one of a moment: after so many of all changes, or after all of them where there are fewer
+pub moment_is : (t : Timeline) (n m length_of_all : ℕ) (all : List Change) (w : WorldState) → all ≡ all_changes t → length_of_all ≡ length all →
+    m ≡ min n length_of_all → IsMoment t m w → w ≡ world_at t n
+moment_is t n m length_of_all all w e l f moment = sym (world_at-all t n m all w e (f ∙ ap (min n) l) moment.1)
 
 -- the machine now, as one after the first changes
 pub replay-all : (t : Timeline) (done : ℕ) (v w : WorldState) → done ≡ length t.changes → replay does t.first t.changes ≡ Some v → w ≡ v →

@@ -16,6 +16,7 @@ pub mod Fault
 pub mod Keyword
 pub mod Known
 pub mod Marks
+pub mod Moments
 pub mod Named
 pub mod Names
 pub mod Operand

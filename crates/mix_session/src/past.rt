@@ -12,6 +12,7 @@ ghost use Rattle.mix_session.specs.Writes.{writes_back};
 
 use crate::altered::Worlds;
 use crate::conflicts::conflict_after;
+use crate::moments::Moments;
 use crate::passages::passages_of;
 use crate::path::{Span, path_of};
 use crate::session::Session;
@@ -30,6 +31,13 @@ impl Session {
         ensures { IfOk result (λ w. w ≡ world_at self.now.timeline number) }
     {
         timeline::world_at(alloc, self.journal(), number)
+    }
+
+    /// The machine at one moment after another, at first after the changes done. Only out of memory refuses it.
+    pub fn moments(&self, alloc: Global) -> Result<Moments<'_>, Memory>
+        ensures { IfOk result (λ m. m.of ≡ self.now.timeline) }
+    {
+        Moments::of(alloc, self.journal())
     }
 
     /// The change of a number, counted from 1, of those done and those that stand ahead; none where there is no such number.

@@ -40,8 +40,8 @@ pub struct Tallies {
     pub all: Tally,
 }
 
-/// The tally of a cell.
-pub(crate) fn tally_in(tallies: &[Tally], number: u16) -> Tally
+/// The tally of a cell, of those that `Session::counts` gives; of a cell that is none nothing is counted.
+pub fn tally_in(tallies: &[Tally], number: u16) -> Tally
     ensures { result ≡ tally_in tallies.now number }
 {
     match tallies.get(usize::from(number)) {

@@ -1,10 +1,11 @@
 //! The machine that a timeline has come to, and those before and ahead of it.
 
-ghost use Rattle.std.specs.Prelude.{◌≡◌, ◌≤◌, ◌+◌, ◌++◌, Some, OnOk, IfOk, length, take};
+ghost use Rattle.std.specs.Prelude.{◌≡◌, ◌≤◌, ◌+◌, Some, OnOk, IfOk, length, take};
 ghost use Rattle.undo_core.specs.Replay.{replay, TakesBack};
 ghost use Rattle.mix_machine.specs.Do.{does};
 ghost use Rattle.mix_machine.specs.Write.{put_value};
-ghost use Rattle.mix_session.specs.Change.{world_at};
+ghost use Rattle.mix_session.specs.Change.{all_changes, world_at};
+ghost use Rattle.mix_session.specs.Moments.{IsMoment};
 ghost use Rattle.mix_session.specs.Timeline.{world_of};
 
 use mix_machine::{Old, World};
@@ -52,6 +53,26 @@ pub(crate) fn unwind(
 }
 
 /// The machine after the first changes of all, those done and those ahead: a copy that is led there.
+pub(crate) fn led_to(
+    alloc: Global,
+    journal: &Journal<World>,
+    number: usize,
+) -> Result<World, Memory>
+    requires { number ≤ length (all_changes journal.now) }
+    ensures { IfOk result (λ w. IsMoment journal.now number w) }
+{
+    let mut world = journal.state().copied(alloc)?;
+    let mut at = journal.done();
+    if number <= at {
+        lead_back(journal, number, &mut world);
+    } else {
+        lead_forth(alloc, journal, number, &mut at, &mut world)?;
+    }
+    Ok(world)
+}
+
+/// In the same way, after all of them where there are fewer.
+#[tactic(auto, using(crate::proofs::ChangeLemmas::moment_is))]
 pub(crate) fn world_at(
     alloc: Global,
     journal: &Journal<World>,
@@ -59,13 +80,8 @@ pub(crate) fn world_at(
 ) -> Result<World, Memory>
     ensures { IfOk result (λ w. w ≡ world_at journal.now number) }
 {
-    let mut world = journal.state().copied(alloc)?;
-    if number <= journal.done() {
-        lead_back(journal, number, &mut world);
-    } else {
-        lead_forth(alloc, journal, number.min(journal.all().len()), &mut world)?;
-    }
-    Ok(world)
+    let least = number.min(journal.all().len());
+    led_to(alloc, journal, least)
 }
 
 /// The machine before all changes: a copy that is led back there.
@@ -92,21 +108,24 @@ fn lead_back(journal: &Journal<World>, number: usize, world: &mut World)
     }
 }
 
-// Leads the machine forth to where it is after the first of all changes.
-fn lead_forth(
+/// Leads the machine forth from after some first changes of all to after more. Out of memory it stays after those between that are done.
+pub(crate) fn lead_forth(
     alloc: Global,
     journal: &Journal<World>,
     number: usize,
+    at: &mut usize,
     world: &mut World,
 ) -> Result<(), Memory>
-    requires done { length journal.now.changes ≤ number }
-    requires all { number ≤ length journal.now.changes + length journal.now.ahead }
-    requires now { replay does journal.now.first journal.now.changes ≡ Some world.old }
-    ensures { OnOk result (replay does journal.now.first (take number (journal.now.changes ++ journal.now.ahead)) ≡ Some world.new) }
+    requires within { at.old ≤ number }
+    requires all { number ≤ length (all_changes journal.now) }
+    requires now { IsMoment journal.now at.old world.old }
+    ensures at { OnOk result (at.new ≡ number) }
+    ensures now { IsMoment journal.now at.new world.new }
 {
     let mut kept = Kept::new(alloc);
-    for at in journal.done()..number {
-        journal.redo(at, world, &mut kept)?;
+    while *at < number {
+        journal.redo(*at, world, &mut kept)?;
+        *at += 1;
         kept.clear();
     }
     Ok(())

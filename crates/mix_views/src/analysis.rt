@@ -13,7 +13,7 @@ use mix_formula::{Named, Row, analysis_text, bracket_of, given_of};
 use mix_lines::Words;
 use mix_machine::Place;
 use mix_refused::Memory;
-use mix_session::{Session, Tally};
+use mix_session::{Session, Tally, tally_in};
 use mix_word::CELLS;
 use mixal_asm::{Program, Source};
 use std::alloc::Global;
@@ -75,16 +75,6 @@ fn rows_below<'a>(
         number += 1;
     }
     Ok(rows)
-}
-
-// The tally of a cell.
-fn tally_in(tallies: &[Tally], number: u16) -> Tally
-    ensures { result ≡ tally_in tallies.now number }
-{
-    match tallies.get(usize::from(number)) {
-        None => Tally { count: 0, time: 0 },
-        Some(tally) => *tally,
-    }
 }
 
 // The row of a cell, if the line that put its word there has one.
