@@ -1,4 +1,5 @@
 """Runs a lesson's bundle with a program, with other data or one instruction changed, and reads what it writes."""
+import json
 import os
 import pathlib
 import re
@@ -83,6 +84,22 @@ def replies_of(program, bundle):
         else:
             replies[-1].append(line)
     return replies[:-1]
+
+
+def console_replies(program, bundle):
+    """The same of lines that a person types, of which a script may not have all: from the console of the debug adapter."""
+    source, deck = ("".join(f"{line}\n" for line in part) for part in (bundle.source, bundle.deck))
+    lines = [("evaluate", {"expression": line, "context": "repl"}) for line in bundle.commands()]
+    launch = {"sourceText": source, "devicesText": deck, "stopOnEntry": True}
+    requests = [("initialize", {"adapterID": "mixrev"}), ("launch", launch), ("configurationDone", {}), *lines]
+    asked = [json.dumps({"seq": seq, "type": "request", "command": command, "arguments": given}) for seq, (command, given) in enumerate(requests, 1)]
+    frames = "".join(f"Content-Length: {len(body)}\r\n\r\n{body}" for body in asked)
+    ran = subprocess.run([program, "dap"], input=frames.encode(), capture_output=True)
+    messages = [json.loads(body) for body in re.split(rb"Content-Length: \d+\r\n\r\n", ran.stdout)[1:]]
+    responses = [message for message in messages if message["type"] == "response"]
+    if len(responses) != len(requests) or not responses[1]["success"]:
+        raise Refused(responses[1]["message"] if responses[1:] else "the program has no console")
+    return [(each["body"]["result"] if each["success"] else each["message"]).splitlines() for each in responses[3:]]
 
 
 class Outcome:

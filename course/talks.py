@@ -10,7 +10,7 @@ edited so before its `reload`. One that begins with "```mixal NAME.mixal" is tha
 import re
 import subprocess
 
-from columns import columns
+from columns import Counted, as_text, table
 from running import Bundle, replies_of
 from terminal import at_a_terminal
 
@@ -105,7 +105,7 @@ def talks(program, folder):
             yield f"lines of the reply to {command} of {name} that are not written", different, []
             yield f"whether the reply to {command} of {name} is shown whole and in order", is_shown(lines, reply), True
     for found in COLUMNS.finditer(text):
-        said = columns(program, (folder / found[1]).read_text(), found[2].split())
+        said = as_text(*table([Counted(program, (folder / found[1]).read_text(), setting) for setting in found[2].split()]))
         yield f"the counts of {found[1]} for {found[2]}", found[3].splitlines(), said
     yield from runs(program, folder, text)
     yield from sources(folder, text)
