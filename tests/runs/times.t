@@ -159,3 +159,41 @@ One formula of a lesson is altered: its line is reported, and no other one.
   $ altered 52_bubble '/TEST/s/A+C/A+C+1/' N=4
   course/times: altered.mixal:31: N=4: [A+C+1] is 9, but the line is executed 8 times
   [1]
+
+The curve: N from 72 to 616, u upwards from 352 to 64. From N = 2 to 5 the clock is 19, 22, 25 and 28, so the dot of 19 is at 352 - 288 * 19/28. By the wrong
+formula the sum is one more, up to 29, and the line is above the dots. Without a sum there are dots alone.
+
+  $ times mixrev sum.mixal N=2..5 --svg >sum.svg; python3 -c 'import xml.dom.minidom as dom; dom.parse("sum.svg")'
+  $ grep -E '<(title|desc|polyline|circle)' sum.svg | sed "s/$(basename "$PWD")/FOLDER/"
+  <title id="curve-title">FOLDER/sum.mixal</title>
+  <desc id="curve-desc">N=2: 19 u, by the formulas 19; N=3: 22 u, by the formulas 22; N=4: 25 u, by the formulas 25; N=5: 28 u, by the formulas 28</desc>
+  <polyline points="72.0,156.6 253.3,125.7 434.7,94.9 616.0,64.0" fill="none" stroke="currentColor" stroke-width="1.5"/>
+  <circle cx="72.0" cy="156.6" r="3"/>
+  <circle cx="253.3" cy="125.7" r="3"/>
+  <circle cx="434.7" cy="94.9" r="3"/>
+  <circle cx="616.0" cy="64.0" r="3"/>
+  $ grep -o '>[0-9]*</text>' sum.svg | tr -d '\n'; echo
+  >2</text>>3</text>>4</text>>5</text>>0</text>>5</text>>10</text>>15</text>>20</text>>25</text>
+  $ times mixrev sum.mixal N=5 N=2..4 --svg --formulas | cmp - sum.svg
+  $ times mixrev wrong.mixal N=2 N=5 --svg 2>&1 | grep -E '<(polyline|circle)|course/times'
+  <polyline points="72.0,153.4 616.0,64.0" fill="none" stroke="currentColor" stroke-width="1.5"/>
+  <circle cx="72.0" cy="163.3" r="3"/>
+  <circle cx="616.0" cy="73.9" r="3"/>
+  course/times: wrong.mixal:4: N=2: [N+1] is 3, but the line is executed 2 times
+  $ times mixrev odd.mixal N=2 --svg 2>/dev/null | grep -cE '<circle|points=""'
+  2
+  $ cp sum.mixal 'a&b.mixal'; times mixrev 'a&b.mixal' N=2 --svg | grep -o '[^/]*</title>'
+  a&amp;b.mixal</title>
+
+It is over the one constant that has several values.
+
+  $ sed '1iM EQU 2' sum.mixal >two.mixal
+  $ times mixrev two.mixal N=4,M=1..3 --svg | grep -oE '[^/]*</title>|>M</text>'
+  two.mixal, N=4</title>
+  >M</text>
+  $ times mixrev two.mixal N=2..3,M=1..2 --svg
+  course/times: a curve is over one constant: give each run a value of it, and of the others the same values
+  [1]
+  $ times mixrev two.mixal N=2..3 M=1 --svg
+  course/times: a curve is over one constant: give each run a value of it, and of the others the same values
+  [1]
