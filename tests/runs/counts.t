@@ -44,7 +44,7 @@ A run writes one table, in one form. What would be dropped is refused, and a for
   $ mixrev run sum.mixal --csv </dev/null >told || echo $?
   2
   $ head -n 1 told
-  stderr: error: the argument '--csv' cannot be used without '--counts', '--writes <PART>' or '--trace'
+  stderr: error: the argument '--csv' cannot be used without '--counts', '--formulas <NAMES>', '--writes <PART>' or '--trace'
   $ mixrev run sum.mixal --counts --csv --json </dev/null | grep error:
   stderr: error: the argument '--csv' cannot be used with '--json'
   $ mixrev run sum.mixal --csv --latex </dev/null | grep error:

@@ -61,6 +61,7 @@ what both say with docs/FORMATS.md.
         --keep <FILE>        Writes what the units hold at the end, as a deck
         --svg <FILE>         Writes a picture of which lines were executed when
         --counts             Writes no rows, but how often each line was executed
+        --formulas <NAMES>   Writes no rows, but formulas beside counts: N=10,A=1
         --writes <PART>      Writes no rows, but changes of this part: A, 100, X+1
         --csv                Writes the table, or the trace, as CSV
         --json               Writes the table, or the trace, as JSON
@@ -81,10 +82,13 @@ what both say with docs/FORMATS.md.
   with --devices. With --svg the picture has the lines of the source against the
   steps of the run: darker where a line was executed more often.
   With --counts a table has a row for each instruction that was executed: the line
-  of the source, the location, how often, and the time in u. With --writes it has
-  a row for each change of a part, with its values before and after. With --trace
-  and one of --csv, --json and --latex it has a row for each step. A run with
-  --svg or --counts keeps its history, so a program without an end needs --steps.
+  of the source, the location, how often, and the time in u. With --formulas it
+  has one for each line with a formula in brackets, such as [N-1]: how often it
+  was executed, the value of the formula, and whether they agree. With --writes it
+  has a row for each change of a part, with its values before and after. With
+  --trace and one of --csv, --json and --latex it has a row for each step. A run
+  with --svg, --counts or --formulas keeps its history, so a program without an
+  end needs --steps.
   A bundle may take the place of a source: its deck is taken, unless --devices
   names another, and its script is left out.
   

@@ -11,7 +11,7 @@ use Rattle.clap.specs.Faults.{entered_fault, fault_of, level_fault}
 use Rattle.clap.specs.Simple.{subcommand_of}
 use Rattle.mix_cli.specs.Program.{commands, mixrev, rule_by}
 use Rattle.mix_cli.specs.declared.program.Kind.{Kind}
-use Rattle.mix_cli.specs.declared.program.Kind.TheVariants.{File, Flag, Free, Needed, Number, Numbers, Part, Several}
+use Rattle.mix_cli.specs.declared.program.Kind.TheVariants.{File, Flag, Free, Names, Needed, Number, Numbers, Part, Several}
 use Rattle.mix_cli.specs.Plan.{checks, check_planned, debug_planned, is_set, list_planned, run_planned, subcommand_planned}
 use Rattle.mix_cli.proofs.Filled.{AllSolid, Solid, given_value, is_missing, level_filled, some_kind, values_filled, without_filled}
 
@@ -32,6 +32,8 @@ argument_solid i (id, File) again [] rows e f = absurd (some_kind _ _ e)
 argument_solid i (id, File) again (v ∷ vs) rows e f = values_filled id _ _ (v ∷ vs) (without id rows) (omega arith) (without_filled id rows f)
 argument_solid i (id, Part) again [] rows e f = absurd (some_kind _ _ e)
 argument_solid i (id, Part) again (v ∷ vs) rows e f = values_filled id _ _ (v ∷ vs) (without id rows) (omega arith) (without_filled id rows f)
+argument_solid i (id, Names) again [] rows e f = absurd (some_kind _ _ e)
+argument_solid i (id, Names) again (v ∷ vs) rows e f = values_filled id _ _ (v ∷ vs) (without id rows) (omega arith) (without_filled id rows f)
 argument_solid i (id, Number from to) again [] rows e f = absurd (some_kind _ _ e)
 argument_solid i (id, Number from to) again (v ∷ vs) rows e f =
     values_filled id _ _ (v ∷ vs) (without id rows) (omega arith) (without_filled id rows f)

@@ -16,7 +16,7 @@ use Rattle.mix_plan.specs.declared.run.AskedTable.{AskedTable}
 use Rattle.mix_plan.specs.declared.run.TableFormat.{TableFormat}
 use Rattle.mix_plan.specs.declared.run.TableFormat.TheVariants.{Csv, Json, Latex}
 use Rattle.mix_plan.specs.declared.run.TableOf.{TableOf}
-use Rattle.mix_plan.specs.declared.run.TableOf.TheVariants.{Counts, Trace, Writes}
+use Rattle.mix_plan.specs.declared.run.TableOf.TheVariants.{Counts, Formulas, Trace, Writes}
 use Rattle.mix_plan.specs.declared.run.UnitSet.{UnitSet}
 
 -- a run: its files, with texts for names
@@ -33,7 +33,7 @@ pub record Asked : Type 0 where
   pub keep : Option Text
   pub svg : Option Text
   pub table : Option AskedTable
-  pub part : Option Text
+  pub subject : Option Text
 
 -- a bundle; a listing of a source; a check of some sources, in JSON or not; a session of a source, of a script where it is named, and of a deck
 -- where it is named, with the commands of the script echoed or not; a run; the debug adapter
@@ -65,7 +65,7 @@ planned_of (plan.Run run) = runs (record {
   keep = option_map string_bytes run.keep;
   svg = option_map string_bytes run.svg;
   table = run.table;
-  part = option_map string_bytes run.part;
+  subject = option_map string_bytes run.subject;
 })
 planned_of plan.Dap = adapts
 planned_of plan.Lsp = speaks
@@ -99,15 +99,17 @@ form_of rows =
     if is_set (codes "json") rows then Some Json else
     if is_set (codes "csv") rows then Some Csv else None
 
--- what a table is of: the counts, or else the changes of a part, or else, where a form is asked for, the steps of a trace
-abbrev pub rows_asked : Bool → Bool → Bool → Option TableOf
-rows_asked counts writes traces = if counts then Some Counts else if writes then Some Writes else if traces then Some Trace else None
+-- what a table is of: the counts, or else the formulas, or else the changes of a part, or else, where a form is asked for, the steps of a trace
+abbrev pub rows_asked : Bool → Bool → Bool → Bool → Option TableOf
+rows_asked counts formulas writes traces =
+    if counts then Some Counts else if formulas then Some Formulas else if writes then Some Writes else if traces then Some Trace else None
 
 -- the table that is asked for, if one is: CSV where no form is
 abbrev pub table_of : List Row → Option AskedTable
 table_of rows =
     option_map (λ of. record { of = of; format = unwrap_or (form_of rows) Csv })
-    (rows_asked (is_set (codes "counts") rows) (is_some (first_of (codes "writes") rows)) (is_set (codes "trace") rows && is_some (form_of rows)))
+    (rows_asked (is_set (codes "counts") rows) (is_some (first_of (codes "formulas") rows)) (is_some (first_of (codes "writes") rows))
+    (is_set (codes "trace") rows && is_some (form_of rows)))
 
 -- the part that a text names: a register may have the book's r before it; capitals and small letters count the same
 unfoldable pub part_of : Text → Text
@@ -121,6 +123,14 @@ part_of text =
     if str_eq_ignore_ascii_case text (codes "rI5") then codes "I5" else
     if str_eq_ignore_ascii_case text (codes "rI6") then codes "I6" else
     if str_eq_ignore_ascii_case text (codes "rJ") then codes "J" else text
+
+-- what the table is about: the values of names, or else the part whose changes it has
+abbrev pub names_or_part : Option Text → Option Text → Option Text
+names_or_part (Some names) part = Some names
+names_or_part None part = option_map part_of part
+
+abbrev pub subject_of : List Row → Option Text
+subject_of rows = names_or_part (first_of (codes "formulas") rows) (first_of (codes "writes") rows)
 
 -- of the words after `list`
 abbrev pub list_planned : List Row → Option Planned
@@ -151,7 +161,7 @@ asked_by source rows = record {
   keep = first_of (codes "keep") rows;
   svg = first_of (codes "svg") rows;
   table = table_of rows;
-  part = option_map part_of (first_of (codes "writes") rows);
+  subject = subject_of rows;
 }
 
 abbrev pub run_planned : List Row → Option Planned

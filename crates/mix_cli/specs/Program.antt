@@ -8,7 +8,7 @@ use Rattle.clap.specs.declared.builder.value_parser.ValueParser.TheVariants.{Uns
 use Rattle.mix_cli.specs.declared.program.Argument.{Argument}
 use Rattle.mix_cli.specs.declared.program.Kind.{Kind}
 use Rattle.mix_cli.specs.declared.program.Subcommand.{Subcommand}
-use Rattle.mix_cli.specs.declared.program.Kind.TheVariants.{File, Flag, Free, Needed, Number, Numbers, Part, Several}
+use Rattle.mix_cli.specs.declared.program.Kind.TheVariants.{File, Flag, Free, Names, Needed, Number, Numbers, Part, Several}
 
 -- how many steps a run may be allowed: a step takes 1u at least, and the clock goes to 10^18
 abbrev pub max_steps : ℕ
@@ -26,6 +26,7 @@ rule_by (name, Free) = new_rule name
 rule_by (name, Flag) = record (new_rule name) { long = Some name; action = Some SetTrue }
 rule_by (name, File) = option_named name
 rule_by (name, Part) = option_named name
+rule_by (name, Names) = option_named name
 rule_by (name, Number from to) = record (option_named name) { parser = Some (Unsigned from to) }
 rule_by (name, Numbers from to) = record (option_named name) { action = Some Append; parser = Some (Unsigned from to) }
 
@@ -35,7 +36,7 @@ commands = (
   codes "run",
   (codes "SOURCE", Needed) ∷ (codes "cards", File) ∷ (codes "typewriter", File) ∷ (codes "devices", File) ∷ (codes "steps", Number 1 max_steps)
       ∷ (codes "unit", Numbers 17 20) ∷ (codes "trace", Flag) ∷ (codes "registers", Flag) ∷ (codes "strict", Flag) ∷ (codes "keep", File) ∷ (codes "svg", File)
-      ∷ (codes "counts", Flag) ∷ (codes "writes", Part) ∷ (codes "csv", Flag) ∷ (codes "json", Flag) ∷ (codes "latex", Flag) ∷ [],
+      ∷ (codes "counts", Flag) ∷ (codes "formulas", Names) ∷ (codes "writes", Part) ∷ (codes "csv", Flag) ∷ (codes "json", Flag) ∷ (codes "latex", Flag) ∷ [],
 )
     ∷ (codes "debug", (codes "SOURCE", Needed) ∷ (codes "SCRIPT", Free) ∷ (codes "devices", File) ∷ (codes "echo", Flag) ∷ [])
     ∷ (codes "list", (codes "SOURCE", Needed) ∷ [])

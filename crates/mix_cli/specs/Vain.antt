@@ -4,7 +4,7 @@ use Rattle.std.specs.Option.{is_some, option_map_or}
 use Rattle.std.specs.Str.{bytes_eq}
 use Rattle.clap.specs.Words.{Row, Text, first_of}
 use Rattle.mix_cli.specs.declared.vain.Choice.{Choice}
-use Rattle.mix_cli.specs.declared.vain.Choice.TheVariants.{Counts, Csv, Json, Latex, Registers, Strict, Trace, Unit, Writes}
+use Rattle.mix_cli.specs.declared.vain.Choice.TheVariants.{Counts, Csv, Formulas, Json, Latex, Registers, Strict, Trace, Unit, Writes}
 use Rattle.mix_cli.specs.declared.vain.Vain.{Vain}
 use Rattle.mix_cli.specs.declared.vain.Vain.TheVariants.{Alone, Together}
 
@@ -15,6 +15,7 @@ is_set id rows = option_map_or (λ text. bytes_eq text (codes "true")) (first_of
 -- whether an option of `run` is chosen
 abbrev pub is_chosen : List Row → Choice → Bool
 is_chosen rows Counts = is_set (codes "counts") rows
+is_chosen rows Formulas = is_some (first_of (codes "formulas") rows)
 is_chosen rows Writes = is_some (first_of (codes "writes") rows)
 is_chosen rows Trace = is_set (codes "trace") rows
 is_chosen rows Registers = is_set (codes "registers") rows
@@ -27,10 +28,11 @@ is_chosen rows Latex = is_set (codes "latex") rows
 -- a run writes one table, in one form; beside a table it prints no rows and no registers, and looks for no conflict
 unfoldable pub pairs : List (Choice × Choice)
 pairs =
-    (Counts, Writes) ∷ (Counts, Trace) ∷ (Writes, Trace) ∷ (Csv, Json) ∷ (Csv, Latex) ∷ (Json, Latex)
-    ∷ (Strict, Counts) ∷ (Strict, Writes) ∷ (Strict, Csv) ∷ (Strict, Json) ∷ (Strict, Latex)
-    ∷ (Registers, Counts) ∷ (Registers, Writes) ∷ (Registers, Csv) ∷ (Registers, Json) ∷ (Registers, Latex)
-    ∷ (Unit, Counts) ∷ (Unit, Writes) ∷ (Unit, Csv) ∷ (Unit, Json) ∷ (Unit, Latex) ∷ []
+    (Counts, Formulas) ∷ (Counts, Writes) ∷ (Counts, Trace) ∷ (Formulas, Writes) ∷ (Formulas, Trace) ∷ (Writes, Trace)
+    ∷ (Csv, Json) ∷ (Csv, Latex) ∷ (Json, Latex)
+    ∷ (Strict, Counts) ∷ (Strict, Formulas) ∷ (Strict, Writes) ∷ (Strict, Csv) ∷ (Strict, Json) ∷ (Strict, Latex)
+    ∷ (Registers, Counts) ∷ (Registers, Formulas) ∷ (Registers, Writes) ∷ (Registers, Csv) ∷ (Registers, Json) ∷ (Registers, Latex)
+    ∷ (Unit, Counts) ∷ (Unit, Formulas) ∷ (Unit, Writes) ∷ (Unit, Csv) ∷ (Unit, Json) ∷ (Unit, Latex) ∷ []
 
 -- the first of some pairs of which both are chosen
 unfoldable pub clash : List Row → List (Choice × Choice) → Option Vain
@@ -40,7 +42,7 @@ clash rows (pair ∷ rest) = if is_chosen rows pair.0 && is_chosen rows pair.1 t
 -- a form, where there is nothing to write in it
 unfoldable pub alone : List Row → Option Vain
 alone rows =
-    if is_chosen rows Counts || is_chosen rows Writes || is_chosen rows Trace then None else
+    if is_chosen rows Counts || is_chosen rows Formulas || is_chosen rows Writes || is_chosen rows Trace then None else
     if is_chosen rows Csv then Some (Alone Csv) else
     if is_chosen rows Json then Some (Alone Json) else
     if is_chosen rows Latex then Some (Alone Latex) else None

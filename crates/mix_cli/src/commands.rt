@@ -22,10 +22,13 @@ prints. With --registers the lines of `show regs` are written at the end. With
 with --devices. With --svg the picture has the lines of the source against the
 steps of the run: darker where a line was executed more often.
 With --counts a table has a row for each instruction that was executed: the line
-of the source, the location, how often, and the time in u. With --writes it has
-a row for each change of a part, with its values before and after. With --trace
-and one of --csv, --json and --latex it has a row for each step. A run with
---svg or --counts keeps its history, so a program without an end needs --steps.
+of the source, the location, how often, and the time in u. With --formulas it
+has one for each line with a formula in brackets, such as [N-1]: how often it
+was executed, the value of the formula, and whether they agree. With --writes it
+has a row for each change of a part, with its values before and after. With
+--trace and one of --csv, --json and --latex it has a row for each step. A run
+with --svg, --counts or --formulas keeps its history, so a program without an
+end needs --steps.
 A bundle may take the place of a source: its deck is taken, unless --devices
 names another, and its script is left out.
 
@@ -117,7 +120,7 @@ const DEVICES: Argument<'static> = Argument {
     help: "The deck: what tapes, disks and cards hold at first",
 };
 
-const RUN_ARGUMENTS: [Argument<'static>; 16] = [
+const RUN_ARGUMENTS: [Argument<'static>; 17] = [
     SOURCE,
     Argument {
         name: "cards",
@@ -171,6 +174,11 @@ const RUN_ARGUMENTS: [Argument<'static>; 16] = [
         help: "Writes no rows, but how often each line was executed",
     },
     Argument {
+        name: "formulas",
+        kind: Kind::Names,
+        help: "Writes no rows, but formulas beside counts: N=10,A=1",
+    },
+    Argument {
         name: "writes",
         kind: Kind::Part,
         help: "Writes no rows, but changes of this part: A, 100, X+1",
@@ -219,30 +227,3 @@ const CHECK_ARGUMENTS: [Argument<'static>; 2] = [
         help: "Writes each fault as one JSON object a line",
     },
 ];
-
-pub(crate) const ABOUT: &str =
-    "Knuth's MIX computer, its assembler MIXAL, and a debugger that runs backwards";
-
-pub(crate) const MORE: &str = "\
-A source is a program in the language MIXAL. A deck says what tapes, disks and
-cards hold before the program runs. A script is a text file of commands, one a
-line, such as: step 4, back 2, forth 1, set A 7, break LOOP, run 1000, show
-regs.
-
-Without any words, mixrev reads a bundle from standard input, if that is no
-terminal: the source; after a line %DEVICES a deck; after a line %SCRIPT a
-script. The deck and the script may be left out. As the name of a file, - is
-standard input.
-
-Examples:
-  mixrev run primes.mixal
-  mixrev debug primes.mixal
-  mixrev debug primes.mixal session.txt --devices tapes.deck
-  mixrev list primes.mixal
-  mixrev check primes.mixal sieve.mixal
-
-The status is 0 if all is accepted, 1 if a source is refused, and 3 if a command
-is refused, a step meets a fault, the steps of a run are used up or a strict run
-ends before a conflict. It is 2 if nothing could be run to its end: a mistake in
-the words, a file that cannot be opened or read, a deck that is refused, a text
-that is too long, an output that takes no more, or no memory.";

@@ -4,7 +4,7 @@ ghost use Rattle.std.specs.Prelude.{◌≡◌, IfOk, IsSome, Some, map, true, st
 ghost use Rattle.std.specs.List.{list_any};
 ghost use Rattle.clap.specs.Words.{all_of, first_of, found_of, rows_of};
 ghost use Rattle.std.specs.Option.{is_some};
-ghost use Rattle.mix_cli.specs.Plan.{form_of, is_set, names_unit, number_of, part_of, units_of, prints, rows_asked, steps_of, table_of};
+ghost use Rattle.mix_cli.specs.Plan.{form_of, is_set, names_unit, number_of, part_of, units_of, prints, rows_asked, steps_of, subject_of, table_of};
 
 use clap::ArgMatches;
 use mix_plan::{AskedTable, TableFormat, TableOf, UnitSet};
@@ -104,8 +104,18 @@ fn part_of(text: &str) -> &str
     }
 }
 
-/// The part whose changes are asked for.
-pub(crate) fn part(alloc: Global, words: &ArgMatches<'_>) -> Result<Option<String>, AllocError>
+/// What the table is about: the values of names, or else the part whose changes are asked for.
+pub(crate) fn subject(alloc: Global, words: &ArgMatches<'_>) -> Result<Option<String>, AllocError>
+    ensures { IfOk result (λ o. subject_of (rows_of (found_of words.now)) ≡ option_map string_bytes o) }
+{
+    match first(words, "formulas") {
+        Some(names) => Ok(Some(String::from_str(alloc, names)?)),
+        None => part(alloc, words),
+    }
+}
+
+// The part whose changes are asked for.
+fn part(alloc: Global, words: &ArgMatches<'_>) -> Result<Option<String>, AllocError>
     ensures { IfOk result (λ o. option_map part_of (first_of (codes "writes") (rows_of (found_of words.now))) ≡ option_map string_bytes o) }
 {
     match first(words, "writes") {
@@ -147,11 +157,13 @@ fn form_of(words: &ArgMatches<'_>) -> Option<TableFormat>
 }
 
 // What a table is of.
-fn rows_asked(counts: bool, writes: bool, traces: bool) -> Option<TableOf>
-    ensures { result ≡ rows_asked counts writes traces }
+fn rows_asked(counts: bool, formulas: bool, writes: bool, traces: bool) -> Option<TableOf>
+    ensures { result ≡ rows_asked counts formulas writes traces }
 {
     if counts {
         Some(TableOf::Counts)
+    } else if formulas {
+        Some(TableOf::Formulas)
     } else if writes {
         Some(TableOf::Writes)
     } else if traces {
@@ -167,7 +179,8 @@ pub(crate) fn table(words: &ArgMatches<'_>) -> Option<AskedTable>
 {
     let form = form_of(words);
     let traces = is_set(words, "trace") && form.is_some();
-    let of = rows_asked(is_set(words, "counts"), is_given(words, "writes"), traces)?;
+    let (formulas, writes) = (is_given(words, "formulas"), is_given(words, "writes"));
+    let of = rows_asked(is_set(words, "counts"), formulas, writes, traces)?;
     Some(AskedTable {
         of,
         format: form.unwrap_or(TableFormat::Csv),

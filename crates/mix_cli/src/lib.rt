@@ -1,6 +1,7 @@
 //! The command line: what the words after the program's name ask for, and what is answered to words that ask for nothing.
 #![tactic(auto)]
 
+mod about;
 mod commands;
 mod fault;
 mod found;

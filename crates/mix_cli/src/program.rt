@@ -5,14 +5,16 @@ ghost use Rattle.clap.specs.Walk.{is_empty};
 ghost use Rattle.clap.specs.Words.{app_of, rule_of, with_subcommand};
 ghost use Rattle.mix_cli.specs.Program.{app_with, argument_of, bare_app, command_named, commands, mixrev, rule_by, rules_of};
 
-use crate::commands::{ABOUT, COMMANDS, MORE};
+use crate::about::{ABOUT, MORE};
+use crate::commands::COMMANDS;
 use crate::version::{LONG_VERSION, VERSION};
 use clap::builder::ValueParser;
 use clap::{Arg, ArgAction, Command};
 use std::alloc::{AllocError, Global};
 
 /// What an argument is: a word that is needed, one or more such words, or one that may be left out;
-/// a flag; or an option with a file, a part of the machine, a number in a range, or several numbers.
+/// a flag; or an option with a file, a part of the machine, values of names, a number in a range, or
+/// several numbers.
 #[derive(Clone, Copy)]
 pub enum Kind {
     Needed,
@@ -21,6 +23,7 @@ pub enum Kind {
     Flag,
     File,
     Part,
+    Names,
     Number(u64, u64),
     Numbers(u64, u64),
 }
@@ -55,6 +58,7 @@ fn arg_of<'a>(alloc: Global, argument: &Argument<'a>) -> Arg<'a>
         Kind::Flag => arg.long(name).action(ArgAction::SetTrue),
         Kind::File => arg.long(name).value_name("FILE"),
         Kind::Part => arg.long(name).value_name("PART"),
+        Kind::Names => arg.long(name).value_name("NAMES"),
         Kind::Number(from, to) => arg
             .long(name)
             .value_name("N")

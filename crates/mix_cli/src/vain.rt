@@ -12,6 +12,7 @@ use std::fmt;
 #[derive(Clone, Copy)]
 pub enum Choice {
     Counts,
+    Formulas,
     Writes,
     Trace,
     Registers,
@@ -26,6 +27,7 @@ impl Choice {
     fn name(self) -> &'static str {
         match self {
             Choice::Counts => "--counts",
+            Choice::Formulas => "--formulas <NAMES>",
             Choice::Writes => "--writes <PART>",
             Choice::Trace => "--trace",
             Choice::Registers => "--registers",
@@ -56,7 +58,7 @@ impl fmt::Display for Vain {
             ),
             Vain::Alone(form) => write!(
                 f,
-                "the argument '{}' cannot be used without '--counts', '--writes <PART>' or '--trace'",
+                "the argument '{}' cannot be used without '--counts', '--formulas <NAMES>', '--writes <PART>' or '--trace'",
                 form.name()
             ),
         }
@@ -68,6 +70,7 @@ fn is_chosen(words: &ArgMatches<'_>, choice: Choice) -> bool
 {
     match choice {
         Choice::Counts => is_set(words, "counts"),
+        Choice::Formulas => is_given(words, "formulas"),
         Choice::Writes => is_given(words, "writes"),
         Choice::Trace => is_set(words, "trace"),
         Choice::Registers => is_set(words, "registers"),
@@ -101,6 +104,7 @@ fn alone(words: &ArgMatches<'_>) -> Option<Vain>
     ensures { result ≡ alone (rows_of (found_of words.now)) }
 {
     let has_rows = is_chosen(words, Choice::Counts)
+        || is_chosen(words, Choice::Formulas)
         || is_chosen(words, Choice::Writes)
         || is_chosen(words, Choice::Trace);
     if has_rows {
@@ -121,25 +125,31 @@ fn alone(words: &ArgMatches<'_>) -> Option<Vain>
 pub(crate) fn vain_in(words: &ArgMatches<'_>) -> Option<Vain>
     ensures { result ≡ vain_in (rows_of (found_of words.now)) }
 {
-    use Choice::{Counts, Csv, Json, Latex, Registers, Strict, Trace, Unit, Writes};
+    use Choice::{Counts, Csv, Formulas, Json, Latex, Registers, Strict, Trace, Unit, Writes};
     let pairs = [
+        (Counts, Formulas),
         (Counts, Writes),
         (Counts, Trace),
+        (Formulas, Writes),
+        (Formulas, Trace),
         (Writes, Trace),
         (Csv, Json),
         (Csv, Latex),
         (Json, Latex),
         (Strict, Counts),
+        (Strict, Formulas),
         (Strict, Writes),
         (Strict, Csv),
         (Strict, Json),
         (Strict, Latex),
         (Registers, Counts),
+        (Registers, Formulas),
         (Registers, Writes),
         (Registers, Csv),
         (Registers, Json),
         (Registers, Latex),
         (Unit, Counts),
+        (Unit, Formulas),
         (Unit, Writes),
         (Unit, Csv),
         (Unit, Json),

@@ -9,7 +9,7 @@ ghost use Rattle.mix_cli.specs.Program.{mixrev};
 ghost use Rattle.mix_cli.specs.declared.fault.LineFault.{LineFault};
 
 use crate::fault::LineFault;
-use crate::found::{is_set, optional, part, required, several, steps, table, units};
+use crate::found::{is_set, optional, required, several, steps, subject, table, units};
 use crate::program::program;
 use crate::vain::{Vain, vain_in};
 use clap::{ArgMatches, Error};
@@ -62,7 +62,7 @@ fn run_plan(alloc: Global, words: &ArgMatches<'_>) -> Result<Plan, AllocError>
         keep: optional(alloc, words, "keep")?,
         svg: optional(alloc, words, "svg")?,
         table: table(words),
-        part: part(alloc, words)?,
+        subject: subject(alloc, words)?,
     }))
 }
 

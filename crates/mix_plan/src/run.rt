@@ -27,8 +27,8 @@ pub struct RunPlan {
     pub svg: Option<String>,
     /// The table that is written instead of the rows.
     pub table: Option<AskedTable>,
-    /// The part whose changes the table has.
-    pub part: Option<String>,
+    /// What the table is about: the part whose changes it has, or the values of names in its formulas, as `N=10,A=1`.
+    pub subject: Option<String>,
 }
 
 /// The units whose rows are written (1.3.1): of the card punch, unit 17, the printer, 18, the typewriter, 19, and the paper tape, 20,
@@ -48,10 +48,12 @@ pub struct AskedTable {
     pub format: TableFormat,
 }
 
-/// What a table has a row for: each instruction that was executed, each step, or each step that altered a part of the machine.
+/// What a table has a row for: each instruction that was executed, each line that has a formula in brackets, each step, or each step that altered a
+/// part of the machine.
 #[derive(Clone, Copy)]
 pub enum TableOf {
     Counts,
+    Formulas,
     Trace,
     Writes,
 }

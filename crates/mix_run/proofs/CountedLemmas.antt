@@ -14,7 +14,7 @@ use Rattle.mix_session.specs.Session.{SessionState, opened}
 use Rattle.mix_session.specs.Tally.{tally_in}
 use Rattle.mix_session.specs.Timeline.{Timeline, world_of}
 use Rattle.mix_session.specs.declared.tally.Tally.{Tally}
-use Rattle.mix_run.specs.Counted.{count_names, count_row, count_rows, count_rows_at, counted_run, counted_steps, counts_table, end_of}
+use Rattle.mix_run.specs.Counted.{EndTableValue, count_names, count_row, count_rows, count_rows_at, counted_run, counted_steps, counts_table, end_of, end_text}
 use Rattle.mix_run.specs.Drawn.{DrawnIf}
 use Rattle.mix_run.specs.Keep.{kept_if}
 use Rattle.mix_run.specs.Print.{counted}
@@ -80,43 +80,43 @@ table-made format program t names cells none begun filled whole en named same eb
     (append_assoc (header_text format (codes "rrrr") count_names) (rows_text format count_names true (count_rows program (tally_at t) 0 4000)) (footer_text format))
 
 -- the table of a session after its steps, where they led, and what is left
-pub counted-made : (format : TableFormat) (options : PrintOptions) (s0 s : SessionState) (end : RunEnd) (stepped : Stepped) (w : WorldState) (text deck map : List ℕ)
+pub counted-made : (table : EndTableValue) (options : PrintOptions) (s0 s : SessionState) (end : RunEnd) (stepped : Stepped) (w : WorldState) (text deck map : List ℕ)
     (answer : PrintAnswer) (p : ProgramValue) → s.program ≡ s0.program → s.timeline ≡ after (counted_steps options.steps s0.timeline)
     → end ≡ end_of (counted_steps options.steps s0.timeline).answer → stepped.end ≡ end → stepped.conflicts ≡ counted [] → w ≡ world_of s.timeline → p ≡ s.program
-    → text ≡ counts_table format s.program s.timeline → answer ≡ Ran (came_to p stepped.end w stepped.conflicts) → deck ≡ kept_if options.keep w
+    → text ≡ end_text table s.program s.timeline → answer ≡ Ran (came_to p stepped.end w stepped.conflicts) → deck ≡ kept_if options.keep w
     → DrawnIf options.map s.program s.timeline map
-    → let run = counted_run format options.steps s0 in
+    → let run = counted_run table options.steps s0 in
     (text ≡ run.bytes) × (answer ≡ Ran (ran_to s0.program run)) × (deck ≡ kept_if options.keep run.world)
     × DrawnIf options.map s0.program (after (counted_steps options.steps s0.timeline)) map
 unfolding counted_run
-counted-made format options s0 s end stepped w text deck map answer p same steps ends is none stands here table leads keeps drawn = (
-  table ∙ rw (same, steps) refl,
+counted-made table options s0 s end stepped w text deck map answer p same steps ends is none stands here text_is leads keeps drawn = (
+  text_is ∙ rw (same, steps) refl,
   leads ∙ rw (here, same, is, ends, none, stands, steps) refl,
   keeps ∙ rw (stands, steps) refl,
   rw (same, steps) at drawn,
 )
 
 -- all of it is written
-pub counted-leaves : (format : TableFormat) (options : PrintOptions) (program : ProgramValue) (units : UnitsState) (s0 : SessionState) (text : List ℕ) (printed : Printed)
+pub counted-leaves : (table : EndTableValue) (options : PrintOptions) (program : ProgramValue) (units : UnitsState) (s0 : SessionState) (text : List ℕ) (printed : Printed)
     (a b : Option (List ℕ)) (n m : ℕ) → s0 ≡ opened program units
-    → (let run = counted_run format options.steps s0 in
+    → (let run = counted_run table options.steps s0 in
     (text ≡ run.bytes) × (printed.answer ≡ Ran (ran_to s0.program run)) × (printed.deck.items ≡ kept_if options.keep run.world)
     × DrawnIf options.map s0.program (after (counted_steps options.steps s0.timeline)) printed.map.items)
     → Appends a b text → m ≡ n
-    → Leaves (counted_outcome format options program units) (DrawnIf options.map program (after (counted_steps options.steps (opened program units).timeline)))
+    → Leaves (counted_outcome table options program units) (DrawnIf options.map program (after (counted_steps options.steps (opened program units).timeline)))
     (Ok printed) a n b m
 unfolding counted_outcome opened
-counted-leaves format options program units s0 text printed a b n m opens made told same =
+counted-leaves table options program units s0 text printed a b n m opens made told same =
     let here = rw opens at made in
     ((rw (here.1, here.2) refl, here.3), rw here.0 at told, same)
 
-pub counted-begun : (format : TableFormat) (options : PrintOptions) (program : ProgramValue) (units : UnitsState) (s0 : SessionState) (text : List ℕ) (printed : Printed)
+pub counted-begun : (table : EndTableValue) (options : PrintOptions) (program : ProgramValue) (units : UnitsState) (s0 : SessionState) (text : List ℕ) (printed : Printed)
     (a b : Option (List ℕ)) (n m : ℕ) → s0 ≡ opened program units
-    → (let run = counted_run format options.steps s0 in
+    → (let run = counted_run table options.steps s0 in
     (text ≡ run.bytes) × (printed.answer ≡ Ran (ran_to s0.program run)) × (printed.deck.items ≡ kept_if options.keep run.world)
     × DrawnIf options.map s0.program (after (counted_steps options.steps s0.timeline)) printed.map.items)
     → AppendsFront a b text → m ≡ n + 1
-    → Leaves (counted_outcome format options program units) (DrawnIf options.map program (after (counted_steps options.steps (opened program units).timeline)))
+    → Leaves (counted_outcome table options program units) (DrawnIf options.map program (after (counted_steps options.steps (opened program units).timeline)))
     (Err faults.Write) a n b m
 unfolding counted_outcome opened
-counted-begun format options program units s0 text printed a b n m opens made begun more = let here = rw opens at made in (rw here.0 at begun, more)
+counted-begun table options program units s0 text printed a b n m opens made begun more = let here = rw opens at made in (rw here.0 at begun, more)

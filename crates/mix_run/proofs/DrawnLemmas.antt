@@ -13,17 +13,17 @@ use Rattle.mix_session.specs.Session.{SessionState, opened}
 use Rattle.mix_session.specs.Timeline.{Timeline}
 use Rattle.mix_session.specs.declared.fault.Refusal.{Refusal}
 use Rattle.mix_session.specs.declared.path.Span.{Span}
-use Rattle.mix_run.specs.Counted.{counted_steps}
-use Rattle.mix_run.specs.Drawn.{DrawnIf, DrawnRun}
+use Rattle.mix_run.specs.Counted.{EndTableValue, counted_steps, end_table_asked, end_table_of}
+use Rattle.mix_run.specs.Drawn.{DrawnIf, DrawnRun, DrawnSteps}
 use Rattle.mix_run.specs.Keep.{kept_if}
 use Rattle.mix_run.specs.Map.{IsMap, map_of_run, map_text, span_of}
 use Rattle.mix_map.specs.Map.{Counts, MapValue, map_by}
 use Rattle.mix_run.specs.Print.{Run, counted, run_of}
-use Rattle.mix_run.specs.PrintOutput.{Leaves, answered, came_to, counted_outcome, counts_asked, counts_in, outcome_of_run, printed_outcome}
+use Rattle.mix_run.specs.PrintOutput.{Leaves, answered, came_to, counted_outcome, outcome_of_run, printed_outcome}
 use Rattle.mix_run.specs.StepTable.{part_named, run_told, step_table, table_of}
 use Rattle.mix_run.specs.Writes.{Broken}
 use Rattle.mix_run.specs.declared.fault.ToolFault.{ToolFault}
-use Rattle.mix_run.specs.declared.print.PrintAnswer.TheVariants.{NoPart, Ran}
+use Rattle.mix_run.specs.declared.print.PrintAnswer.TheVariants.{NoTable, Ran}
 use Rattle.mix_run.specs.declared.print.Printed.{Printed}
 use Rattle.mix_run.specs.declared.print.options.AskedTable.{AskedTable}
 use Rattle.mix_run.specs.declared.print.options.PrintOptions.{PrintOptions}
@@ -31,7 +31,6 @@ use Rattle.mix_run.specs.declared.print.options.TableOf.{TableOf}
 use Rattle.mix_run.specs.declared.print.options.TableOf.TheVariants as ofs
 use Rattle.mix_run.specs.declared.print.steps.Stepped.{Stepped}
 use Rattle.mix_run.specs.declared.print.tabled.StepTable.{StepTable}
-use Rattle.mix_run.specs.declared.table.TableFormat.{TableFormat}
 use Rattle.mix_run.proofs.Written.{Appends-nothing}
 
 -- the map of a path
@@ -86,7 +85,7 @@ pub leaves-opened : (options : PrintOptions) (part : List ℕ) (table : Option S
     (done : Result Printed ToolFault) (a b : Option (List ℕ)) (n m : ℕ) → s ≡ opened program units → step_table options.table part s ≡ Ok table
     → Leaves (answered options s.program (run_told table options s.program (world_at s.timeline 0)))
     (DrawnIf options.map s.program (after (counted_steps options.steps s.timeline))) done a n b m
-    → Leaves (printed_outcome options part program units) (DrawnRun options part program units) done a n b m
+    → Leaves (printed_outcome options part program units) (DrawnSteps options part program units) done a n b m
 unfolding printed_outcome
 leaves-opened options part table program units s done a b n m opens chosen leaves =
     let here = ap (λ (x : SessionState). step_table options.table part x) (sym opens) ∙ chosen in
@@ -96,9 +95,9 @@ leaves-opened options part table program units s done a b n m opens chosen leave
 
 -- a part that is none
 pub leaves-none : (options : PrintOptions) (part : List ℕ) (program : ProgramValue) (units : UnitsState) (s : SessionState) (refusal : Refusal) (printed : Printed)
-    (told : Option (List ℕ)) (n : ℕ) → s ≡ opened program units → step_table options.table part s ≡ Err refusal → printed.answer ≡ NoPart refusal
+    (told : Option (List ℕ)) (n : ℕ) → s ≡ opened program units → step_table options.table part s ≡ Err refusal → printed.answer ≡ NoTable refusal
     → printed.deck.items ≡ [] → printed.map.items ≡ []
-    → Leaves (printed_outcome options part program units) (DrawnRun options part program units) (Ok printed) told n told n
+    → Leaves (printed_outcome options part program units) (DrawnSteps options part program units) (Ok printed) told n told n
 unfolding printed_outcome
 leaves-none options part program units s refusal printed told n opens none answer deck map =
     let here = ap (λ (x : SessionState). step_table options.table part x) (sym opens) ∙ none in
@@ -112,27 +111,36 @@ draws-after steps s0 s new same led drawn = rw (same, led) at drawn
 
 -- ---- which run is asked for
 
--- the counts are of no part
-counts-of : (of : TableOf) (asked : AskedTable) (format : TableFormat) (part : Result Part Refusal) → counts_in of asked.format ≡ Some format
-    → table_of of asked part ≡ Ok None
-counts-of ofs.Counts asked format part e = refl
-counts-of ofs.Trace asked format part e = absurd cc
-counts-of ofs.Writes asked format part e = absurd cc
+-- a table at the end is none of the steps
+last-of : (of : TableOf) (asked : AskedTable) (subject : List ℕ) (table : EndTableValue) (part : Result Part Refusal)
+    → end_table_of of asked.format subject ≡ Ok (Some table) → table_of of asked part ≡ Ok None
+last-of ofs.Counts asked subject table part e = refl
+last-of ofs.Formulas asked subject table part e = refl
+last-of ofs.Trace asked subject table part e = absurd cc
+last-of ofs.Writes asked subject table part e = absurd cc
 
-counts-table : (asked : Option AskedTable) (format : TableFormat) (part : List ℕ) (s : SessionState) → counts_asked asked ≡ Some format
-    → step_table asked part s ≡ Ok None
+last-table : (asked : Option AskedTable) (subject : List ℕ) (table : EndTableValue) (s : SessionState) → end_table_asked asked subject ≡ Ok (Some table)
+    → step_table asked subject s ≡ Ok None
 unfolding step_table
-counts-table None format part s e = absurd cc
-counts-table (Some asked) format part s e = counts-of asked.of asked format (part_named s part) e
+last-table None subject table s e = absurd cc
+last-table (Some asked) subject table s e = last-of asked.of asked subject table (part_named s subject) e
 
-pub leaves-counted : (options : PrintOptions) (part : List ℕ) (format : TableFormat) (program : ProgramValue) (units : UnitsState) (done : Result Printed ToolFault)
-    (a b : Option (List ℕ)) (n m : ℕ) → counts_asked options.table ≡ Some format
-    → Leaves (counted_outcome format options program units)
+pub leaves-counted : (options : PrintOptions) (subject : List ℕ) (table : EndTableValue) (program : ProgramValue) (units : UnitsState) (done : Result Printed ToolFault)
+    (a b : Option (List ℕ)) (n m : ℕ) → end_table_asked options.table subject ≡ Ok (Some table)
+    → Leaves (counted_outcome table options program units)
     (DrawnIf options.map program (after (counted_steps options.steps (opened program units).timeline))) done a n b m
-    → Leaves (outcome_of_run options part program units) (DrawnRun options part program units) done a n b m
+    → Leaves (outcome_of_run options subject program units) (DrawnRun options subject program units) done a n b m
 unfolding outcome_of_run
-leaves-counted options part format program units done a b n m counts leaves =
-    rw (counts, counts-table options.table format part (opened program units) counts) leaves
+leaves-counted options subject table program units done a b n m last leaves =
+    rw (last, last-table options.table subject table (opened program units) last) leaves
+
+-- values that cannot be read
+pub leaves-refused : (options : PrintOptions) (subject : List ℕ) (program : ProgramValue) (units : UnitsState) (refusal : Refusal) (printed : Printed)
+    (told : Option (List ℕ)) (n : ℕ) → end_table_asked options.table subject ≡ Err refusal → printed.answer ≡ NoTable refusal
+    → printed.deck.items ≡ [] → printed.map.items ≡ []
+    → Leaves (outcome_of_run options subject program units) (DrawnRun options subject program units) (Ok printed) told n told n
+unfolding outcome_of_run
+leaves-refused options subject program units refusal printed told n last answer deck map = rw last ((rw (answer, deck) refl, map), Appends-nothing told, refl)
 
 no-table : (asked : Option AskedTable) → is_some asked ≡ false → asked ≡ None
 no-table None e = refl
@@ -147,20 +155,20 @@ unfolding step_table
 table-none asked part s e = rw (no-table asked e) refl
 
 -- a run without a session is told by what it prints
-pub leaves-alone : (options : PrintOptions) (part : List ℕ) (program : ProgramValue) (units : UnitsState) (done : Result Printed ToolFault)
+pub leaves-alone : (options : PrintOptions) (subject : List ℕ) (program : ProgramValue) (units : UnitsState) (done : Result Printed ToolFault)
     (a b : Option (List ℕ)) (n m : ℕ) → (options.map || is_some options.table) ≡ false
     → Leaves (answered options program (run_of options (loaded program.words program.start units))) (λ map. map ≡ []) done a n b m
-    → Leaves (outcome_of_run options part program units) (DrawnRun options part program units) done a n b m
+    → Leaves (outcome_of_run options subject program units) (DrawnRun options subject program units) done a n b m
 unfolding outcome_of_run printed_outcome
-leaves-alone options part program units done a b n m alone leaves =
+leaves-alone options subject program units done a b n m alone leaves =
     let none = neither options.map (is_some options.table) alone in
-    let counts : counts_asked options.table ≡ None = ap counts_asked (no-table options.table none.1) in
-    rw (counts, table-none options.table part (opened program units) none.1, none.0) leaves
+    let last : end_table_asked options.table subject ≡ Ok None = ap (λ asked. end_table_asked asked subject) (no-table options.table none.1) in
+    rw (last, table-none options.table subject (opened program units) none.1, none.0) leaves
 
 -- and one with it in a session
-pub leaves-told : (options : PrintOptions) (part : List ℕ) (program : ProgramValue) (units : UnitsState) (done : Result Printed ToolFault)
-    (a b : Option (List ℕ)) (n m : ℕ) → counts_asked options.table ≡ None
-    → Leaves (printed_outcome options part program units) (DrawnRun options part program units) done a n b m
-    → Leaves (outcome_of_run options part program units) (DrawnRun options part program units) done a n b m
+pub leaves-told : (options : PrintOptions) (subject : List ℕ) (program : ProgramValue) (units : UnitsState) (done : Result Printed ToolFault)
+    (a b : Option (List ℕ)) (n m : ℕ) → end_table_asked options.table subject ≡ Ok None
+    → Leaves (printed_outcome options subject program units) (DrawnSteps options subject program units) done a n b m
+    → Leaves (outcome_of_run options subject program units) (DrawnRun options subject program units) done a n b m
 unfolding outcome_of_run
-leaves-told options part program units done a b n m counts leaves = rw counts leaves
+leaves-told options subject program units done a b n m last leaves = rw last leaves

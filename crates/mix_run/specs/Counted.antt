@@ -1,5 +1,6 @@
--- What a run writes whose steps are counted: a table with a row for each cell whose instruction was executed.
-use Rattle.std.specs.Prelude.{ℕ, zero, suc, ◌+◌, ◌==◌, List, [], ◌∷◌, ◌++◌, codes, Option, Some, None, if◌then◌else◌, min}
+-- What a run writes whose steps are counted: a table with a row for each cell whose instruction was executed, or that of the formulas.
+use Rattle.std.specs.Prelude.{ℕ, zero, suc, ◌+◌, ◌==◌, List, [], ◌∷◌, ◌++◌, codes, Option, Some, None, Result, Ok, Err, if◌then◌else◌, min}
+use Rattle.mix_formula.specs.Names.{NameValue}
 use Rattle.mixal_asm.specs.Program.{ProgramValue}
 use Rattle.mix_session.specs.Command.{Effect, after, effect_of_run}
 use Rattle.mix_session.specs.Counts.{tally_at}
@@ -9,11 +10,17 @@ use Rattle.mix_session.specs.Timeline.{Timeline, world_of}
 use Rattle.mix_session.specs.declared.answer.Answer.{Answer}
 use Rattle.mix_session.specs.declared.answer.Answer.TheVariants as answers
 use Rattle.mix_session.specs.declared.command.stops.Way.TheVariants as way
+use Rattle.mix_session.specs.declared.fault.Refusal.{Refusal}
+use Rattle.mix_session.specs.declared.fault.Refusal.TheVariants.{BadArgument}
 use Rattle.mix_session.specs.declared.reply.End.{End}
 use Rattle.mix_session.specs.declared.reply.End.TheVariants as ends
 use Rattle.mix_session.specs.declared.tally.Tally.{Tally}
+use Rattle.mix_run.specs.Formulas.{formulas_table, given_by}
 use Rattle.mix_run.specs.Print.{Run, line_at}
-use Rattle.mix_run.specs.Table.{FieldValue, Number, Text, Missing, table_text}
+use Rattle.mix_run.specs.Table.{FieldValue, Text, Missing, table_text, unsigned}
+use Rattle.mix_run.specs.declared.print.options.AskedTable.{AskedTable}
+use Rattle.mix_run.specs.declared.print.options.TableOf.{TableOf}
+use Rattle.mix_run.specs.declared.print.options.TableOf.TheVariants as of
 use Rattle.mix_run.specs.declared.print.steps.RunEnd.{RunEnd}
 use Rattle.mix_run.specs.declared.print.steps.RunEnd.TheVariants.{Halted, Faulted, UsedUp}
 use Rattle.mix_run.specs.declared.table.TableFormat.{TableFormat}
@@ -46,11 +53,11 @@ count_names = Text (codes "line") ∷ Text (codes "location") ∷ Text (codes "c
 
 abbrev pub number_or : Option ℕ → FieldValue
 number_or None = Missing
-number_or (Some n) = Number n
+number_or (Some n) = unsigned n
 
 -- the row of a cell: the line of the source that put its word there, its location, how often it was executed, and how long that took
 abbrev pub count_row : ProgramValue → Tally → ℕ → List FieldValue
-count_row program tally p = number_or (line_at program p) ∷ Number p ∷ Number tally.count ∷ Number tally.time ∷ []
+count_row program tally p = number_or (line_at program p) ∷ unsigned p ∷ unsigned tally.count ∷ unsigned tally.time ∷ []
 
 -- the row of a cell, if it was executed
 abbrev pub count_rows_at : ProgramValue → Tally → ℕ → List (List FieldValue)
@@ -65,12 +72,42 @@ count_rows program tally p (suc n) = count_rows_at program (tally p) p ++ count_
 unfoldable pub counts_table : TableFormat → ProgramValue → Timeline → List ℕ
 counts_table format program t = table_text format (codes "rrrr") count_names (count_rows program (tally_at t) 0 4000)
 
+-- ---- which table is written at the end
+
+-- a table that is written at the end of a run: its form, and the values that are given to names, if it is that of the formulas
+pub record EndTableValue : Type 0 where
+  pub format : TableFormat
+  pub given : Option (List NameValue)
+
+abbrev pub end_text_by : Option (List NameValue) → TableFormat → ProgramValue → Timeline → List ℕ
+end_text_by None format program t = counts_table format program t
+end_text_by (Some given) format program t = formulas_table format given program t
+
+abbrev pub end_text : EndTableValue → ProgramValue → Timeline → List ℕ
+end_text table program t = end_text_by table.given table.format program t
+
+-- that of the formulas, if the values of names can be read
+abbrev pub with_given : TableFormat → Option (List NameValue) → Result (Option EndTableValue) Refusal
+with_given format None = Err BadArgument
+with_given format (Some given) = Ok (Some (record { format = format; given = Some given }))
+
+abbrev pub end_table_of : TableOf → TableFormat → List ℕ → Result (Option EndTableValue) Refusal
+end_table_of of.Counts format subject = Ok (Some (record { format = format; given = None }))
+end_table_of of.Formulas format subject = with_given format (given_by subject)
+end_table_of of.Trace format subject = Ok None
+end_table_of of.Writes format subject = Ok None
+
+-- the one that is asked for, if one is; why it is none
+abbrev pub end_table_asked : Option AskedTable → List ℕ → Result (Option EndTableValue) Refusal
+end_table_asked None subject = Ok None
+end_table_asked (Some asked) subject = end_table_of asked.of asked.format subject
+
 -- a run whose steps are counted: what it writes, its end, and the machine then; conflicts are not looked for
-unfoldable pub counted_run : TableFormat → ℕ → SessionState → Run
-counted_run format steps s =
+unfoldable pub counted_run : EndTableValue → ℕ → SessionState → Run
+counted_run table steps s =
     let effect = counted_steps steps s.timeline in
     record {
-      bytes = counts_table format s.program (after effect);
+      bytes = end_text table s.program (after effect);
       end = end_of effect.answer;
       world = world_of (after effect);
       met = [];

@@ -6,7 +6,7 @@ use Rattle.mix_session.specs.Command.{after}
 use Rattle.mix_session.specs.Session.{opened}
 use Rattle.mix_session.specs.Timeline.{Timeline}
 use Rattle.mix_session.specs.declared.fault.Refusal.{Refusal}
-use Rattle.mix_run.specs.Counted.{counted_steps}
+use Rattle.mix_run.specs.Counted.{EndTableValue, counted_steps, end_table_asked}
 use Rattle.mix_run.specs.Map.{IsMap}
 use Rattle.mix_run.specs.StepTable.{step_table}
 use Rattle.mix_run.specs.declared.print.options.PrintOptions.{PrintOptions}
@@ -23,7 +23,15 @@ is_drawn map (Ok table) = map
 is_drawn map (Err refusal) = false
 
 -- a program with its units, after as many steps as are asked for, or up to a halt or a fault
-abbrev pub DrawnRun : PrintOptions → List ℕ → ProgramValue → UnitsState → List ℕ → Type 0
-DrawnRun options part program units map =
+abbrev pub DrawnSteps : PrintOptions → List ℕ → ProgramValue → UnitsState → List ℕ → Type 0
+DrawnSteps options part program units map =
     DrawnIf (is_drawn options.map (step_table options.table part (opened program units))) program
     (after (counted_steps options.steps (opened program units).timeline)) map
+
+-- nothing is run, and nothing drawn, where the values of names cannot be read by which the formulas are to be checked
+abbrev pub DrawnBy : Result (Option EndTableValue) Refusal → PrintOptions → List ℕ → ProgramValue → UnitsState → List ℕ → Type 0
+DrawnBy (Ok table) options subject program units map = DrawnSteps options subject program units map
+DrawnBy (Err refusal) options subject program units map = map ≡ []
+
+abbrev pub DrawnRun : PrintOptions → List ℕ → ProgramValue → UnitsState → List ℕ → Type 0
+DrawnRun options subject program units map = DrawnBy (end_table_asked options.table subject) options subject program units map

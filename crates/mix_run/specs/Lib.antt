@@ -5,6 +5,7 @@ pub mod Debug
 pub mod Drawn
 pub mod Counted
 pub mod Fault
+pub mod Formulas
 pub mod Hearing
 pub mod Keep
 pub mod Map

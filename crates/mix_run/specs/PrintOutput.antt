@@ -7,23 +7,19 @@ use Rattle.mix_machine.specs.units.Units.{UnitsState}
 use Rattle.mix_machine.specs.declared.units.deck_fault.DeckFault.{DeckFault}
 use Rattle.mix_run.specs.declared.fault.ToolFault.{ToolFault}
 unfoldable pub use Rattle.mix_files.specs.Bundle.{parts_of}
-use Rattle.mix_run.specs.Counted.{counted_run}
+use Rattle.mix_run.specs.Counted.{EndTableValue, counted_run, end_table_asked}
 use Rattle.mix_run.specs.Keep.{kept_if}
 use Rattle.mix_run.specs.Print.{Run, counted, line_at}
 use Rattle.mix_run.specs.StepTable.{run_told, step_table}
 use Rattle.mix_run.specs.Writes.{Writes}
 use Rattle.mix_run.specs.declared.print.PrintAnswer.{PrintAnswer}
-use Rattle.mix_run.specs.declared.print.PrintAnswer.TheVariants.{NoPart, Ran}
+use Rattle.mix_run.specs.declared.print.PrintAnswer.TheVariants.{NoTable, Ran}
 use Rattle.mix_run.specs.declared.print.Printed.{Printed}
 use Rattle.mix_run.specs.declared.print.loaded.RanTo.{RanTo}
-use Rattle.mix_run.specs.declared.print.options.AskedTable.{AskedTable}
 use Rattle.mix_run.specs.declared.print.options.PrintOptions.{PrintOptions}
-use Rattle.mix_run.specs.declared.print.options.TableOf.{TableOf}
-use Rattle.mix_run.specs.declared.print.options.TableOf.TheVariants as of
 use Rattle.mix_run.specs.declared.print.steps.RunEnd.{RunEnd}
 use Rattle.mix_run.specs.declared.print.tabled.StepTable.{StepTable}
 use Rattle.mix_run.specs.declared.print.watch.Conflicts.{Conflicts}
-use Rattle.mix_run.specs.declared.table.TableFormat.{TableFormat}
 use Rattle.mix_session.specs.Session.{opened}
 use Rattle.mix_session.specs.declared.fault.Refusal.{Refusal}
 
@@ -53,7 +49,7 @@ answered options program run = Answered run.bytes (Ran (ran_to program run)) (ke
 -- a run told by what it prints or by a table of its steps; nothing is run where the part that the table is of is none
 abbrev pub told_by : PrintOptions → ProgramValue → WorldState → Result (Option StepTable) Refusal → PrintOutcome
 told_by options program w (Ok table) = answered options program (run_told table options program w)
-told_by options program w (Err refusal) = Answered [] (NoPart refusal) []
+told_by options program w (Err refusal) = Answered [] (NoTable refusal) []
 
 -- a program run on the machine that it is loaded into, with its units
 unfoldable pub printed_outcome : PrintOptions → List ℕ → ProgramValue → UnitsState → PrintOutcome
@@ -61,26 +57,18 @@ printed_outcome options part program units =
     told_by options program (loaded program.words program.start units) (step_table options.table part (opened program units))
 
 -- the same in a session, with its steps counted
-unfoldable pub counted_outcome : TableFormat → PrintOptions → ProgramValue → UnitsState → PrintOutcome
-counted_outcome format options program units = answered options program (counted_run format options.steps (opened program units))
+unfoldable pub counted_outcome : EndTableValue → PrintOptions → ProgramValue → UnitsState → PrintOutcome
+counted_outcome table options program units = answered options program (counted_run table options.steps (opened program units))
 
--- the form of the counts, if they are what a table is of
-abbrev pub counts_in : TableOf → TableFormat → Option TableFormat
-counts_in of.Counts format = Some format
-counts_in of.Trace format = None
-counts_in of.Writes format = None
+-- nothing is run where the values of names cannot be read by which the formulas are to be checked
+abbrev pub outcome_by : Result (Option EndTableValue) Refusal → PrintOptions → List ℕ → ProgramValue → UnitsState → PrintOutcome
+outcome_by (Err refusal) options subject program units = Answered [] (NoTable refusal) []
+outcome_by (Ok None) options subject program units = printed_outcome options subject program units
+outcome_by (Ok (Some table)) options subject program units = counted_outcome table options program units
 
-abbrev pub counts_asked : Option AskedTable → Option TableFormat
-counts_asked None = None
-counts_asked (Some asked) = counts_in asked.of asked.format
-
-abbrev pub outcome_by : Option TableFormat → PrintOptions → List ℕ → ProgramValue → UnitsState → PrintOutcome
-outcome_by None options part program units = printed_outcome options part program units
-outcome_by (Some format) options part program units = counted_outcome format options program units
-
--- which of them is asked for, and of which part
+-- which of them is asked for, and of which part or by which values
 unfoldable pub outcome_of_run : PrintOptions → List ℕ → ProgramValue → UnitsState → PrintOutcome
-outcome_of_run options part program units = outcome_by (counts_asked options.table) options part program units
+outcome_of_run options subject program units = outcome_by (end_table_asked options.table subject) options subject program units
 
 -- the bytes that an outcome writes
 abbrev pub bytes_of : PrintOutcome → List ℕ

@@ -21,7 +21,7 @@ use Rattle.mix_session.specs.declared.fault.Refusal.{Refusal}
 use Rattle.mix_session.specs.declared.fault.Refusal.TheVariants.{BadArgument}
 use Rattle.mix_run.specs.Counted.{number_or}
 use Rattle.mix_run.specs.Print.{Run, line_at, run_of}
-use Rattle.mix_run.specs.Table.{FieldValue, Number, Text, Signed, rows_text, table_text}
+use Rattle.mix_run.specs.Table.{FieldValue, Text, rows_text, signed, table_text, unsigned}
 use Rattle.mix_run.specs.declared.print.options.AskedTable.{AskedTable}
 use Rattle.mix_run.specs.declared.print.options.PrintOptions.{PrintOptions}
 use Rattle.mix_run.specs.declared.print.options.TableOf.{TableOf}
@@ -52,27 +52,27 @@ columns_of None = codes "rrrlrrrrrrrrrccr"
 columns_of (Some part) = codes "rrrrr"
 
 abbrev pub register_field : WorldState → Reg → FieldValue
-register_field w r = Signed (register_of w r)
+register_field w r = signed (register_of w r)
 
 -- the row of a step: its number, the line of the source that put the instruction there, its location, the instruction, and what it left: the registers,
 -- the overflow toggle, the comparison indicator and the clock in u
 abbrev pub trace_row : ProgramValue → ℕ → ℕ → List ℕ → WorldState → List FieldValue
 trace_row program number loc instruction w =
-    Number number ∷ number_or (line_at program loc) ∷ Number loc ∷ Text instruction ∷ register_field w A ∷ register_field w X
+    unsigned number ∷ number_or (line_at program loc) ∷ unsigned loc ∷ Text instruction ∷ register_field w A ∷ register_field w X
     ∷ register_field w I1 ∷ register_field w I2 ∷ register_field w I3 ∷ register_field w I4 ∷ register_field w I5 ∷ register_field w I6 ∷ register_field w J
-    ∷ Text (toggle_name w.over) ∷ Text (indicator_name w.cmp) ∷ Number w.clock ∷ []
+    ∷ Text (toggle_name w.over) ∷ Text (indicator_name w.cmp) ∷ unsigned w.clock ∷ []
 
 -- what a part holds; of a unit the time in u until which its last transfer takes
 abbrev pub mark_field : Mark → FieldValue
-mark_field (mark.Word w) = Signed w
+mark_field (mark.Word w) = signed w
 mark_field (mark.Toggle over) = Text (toggle_name over)
 mark_field (mark.Indicator cmp) = Text (indicator_name cmp)
-mark_field (mark.Location loc) = Number loc
-mark_field (mark.Time time) = Number time
+mark_field (mark.Location loc) = unsigned loc
+mark_field (mark.Time time) = unsigned time
 
 -- the row of a step that altered a part: its number, the line, the location, and what the part held before and after it
 abbrev pub write_row : ProgramValue → ℕ → ℕ → Mark → Mark → List FieldValue
-write_row program number loc before after = Number number ∷ number_or (line_at program loc) ∷ Number loc ∷ mark_field before ∷ mark_field after ∷ []
+write_row program number loc before after = unsigned number ∷ number_or (line_at program loc) ∷ unsigned loc ∷ mark_field before ∷ mark_field after ∷ []
 
 abbrev pub write_rows : Bool → ProgramValue → ℕ → ℕ → Mark → Mark → List (List FieldValue)
 write_rows altered program number loc before after = if altered then write_row program number loc before after ∷ [] else []
@@ -142,6 +142,7 @@ with_part asked (Err refusal) = Err refusal
 
 abbrev pub table_of : TableOf → AskedTable → Result Part Refusal → Result (Option StepTable) Refusal
 table_of of.Counts asked part = Ok None
+table_of of.Formulas asked part = Ok None
 table_of of.Trace asked part = Ok (Some (record { format = asked.format; part = None }))
 table_of of.Writes asked part = with_part asked part
 

@@ -1,7 +1,10 @@
 -- A table of numbers and texts as CSV, JSON or LaTeX.
-use Rattle.std.specs.Prelude.{ℕ, ◌+◌, ◌/◌, ◌%◌, ◌==◌, ◌||◌, Bool, true, false, nat_lt, List, [], ◌∷◌, ◌++◌, codes, length, flat_map, get_or, if◌then◌else◌}
+use Rattle.std.specs.Prelude.{ℕ, ℤ, pos, negsuc, ◌==◌, ◌||◌, Bool, true, false, List, [], ◌∷◌, ◌++◌, codes, flat_map, map, unsigned_abs, if◌then◌else◌}
 use Rattle.std.specs.Fmt.{decimal}
-use Rattle.std.specs.List.{list_any, range_with_len}
+use Rattle.csv.specs.Writing.{default_writer, row_text as csv_text}
+use Rattle.json.specs.Print.{print}
+use Rattle.json.specs.Token.{Token, begin_object, end_object, key, null, number, string}
+use Rattle.mix_word.specs.Instruction.{signed_text}
 use Rattle.mix_word.specs.Word.{WordValue}
 use Rattle.mix_word.specs.declared.word.Sign.{Sign}
 use Rattle.mix_word.specs.declared.word.Sign.TheVariants.{Plus, Minus}
@@ -10,50 +13,76 @@ use Rattle.mix_run.specs.declared.table.field.Kind.TheVariants as kind
 use Rattle.mix_run.specs.declared.table.TableFormat.{TableFormat}
 use Rattle.mix_run.specs.declared.table.TableFormat.TheVariants.{Csv, Json, Latex}
 
--- a field of a table: a number, a word as a number with its sign, a text, or nothing
+-- a field of a table: a number with its sign, which -0 has too, a text, or nothing
 pub data FieldValue : Type 0 where
-  Number : ℕ → FieldValue
-  Signed : WordValue → FieldValue
+  Number : Sign → ℕ → FieldValue
   Text : List ℕ → FieldValue
   Missing : FieldValue
 
 abbrev pub value_of : Kind → FieldValue
-value_of (kind.Number n) = Number n
-value_of (kind.Signed word) = Signed word
+value_of (kind.Number sign n) = Number sign n
 value_of (kind.Text text) = Text text.now
 value_of kind.Missing = Missing
 
--- ---- texts
+abbrev pub unsigned : ℕ → FieldValue
+unsigned n = Number Plus n
 
--- whether a byte needs quotes in CSV: a comma, a quote, a line feed or a carriage return
-abbrev pub is_quoted_byte : ℕ → Bool
-is_quoted_byte byte = byte == 44 || byte == 34 || byte == 10 || byte == 13
+-- the number of a word
+abbrev pub signed : WordValue → FieldValue
+signed word = Number word.sign word.magnitude
 
--- what a text has before and after it
-abbrev pub quote_of : TableFormat → List ℕ → List ℕ
-quote_of Csv text = if list_any is_quoted_byte text then 34 ∷ [] else []
-quote_of Json text = 34 ∷ []
-quote_of Latex text = []
+-- a whole number: 0 has no minus
+abbrev pub sign_of : ℤ → Sign
+sign_of (pos n) = Plus
+sign_of (negsuc n) = Minus
 
--- a digit of a number to base 16
-abbrev pub hex_digit : ℕ → ℕ
-hex_digit n = if nat_lt n 10 then 48 + n else 87 + n
+abbrev pub whole : ℤ → FieldValue
+whole n = Number (sign_of n) (unsigned_abs n)
 
--- a byte in CSV: a quote is doubled
-abbrev pub csv_byte : ℕ → List ℕ
-csv_byte byte = if byte == 34 then 34 ∷ 34 ∷ [] else byte ∷ []
+-- a field without quotes
+abbrev pub plain_text : FieldValue → List ℕ
+plain_text (Number sign n) = signed_text sign n
+plain_text (Text text) = text
+plain_text Missing = []
 
--- a byte in JSON: a quote and a backslash are escaped, and a byte that is no character by its number
-abbrev pub json_byte : ℕ → List ℕ
-json_byte byte =
-    if byte == 34 || byte == 92 then 92 ∷ byte ∷ [] else
-    if nat_lt byte 32 then codes "\\u00" ++ hex_digit (byte / 16) ∷ hex_digit (byte % 16) ∷ [] else byte ∷ []
+-- ---- CSV and JSON, as the crates csv and json write them
 
--- whether a byte is printed in LaTeX after a backslash: # $ % & _ { }
+abbrev pub csv_row : List FieldValue → List ℕ
+csv_row fields = csv_text default_writer (map plain_text fields)
+
+-- nothing is null
+abbrev pub token_of : FieldValue → Token
+token_of (Number sign n) = number (signed_text sign n)
+token_of (Text text) = string text
+token_of Missing = null
+
+-- the name that a column has: a text
+abbrev pub name_of : FieldValue → List ℕ
+name_of (Number sign n) = []
+name_of (Text text) = text
+name_of Missing = []
+
+-- each field with the name of its column before it
+abbrev pub members : List FieldValue → List FieldValue → List Token
+members names [] = []
+members [] (field ∷ fields) = []
+members (name ∷ names) (field ∷ fields) = key (name_of name) ∷ token_of field ∷ members names fields
+
+abbrev pub object_text : List FieldValue → List FieldValue → List ℕ
+object_text names fields = print (begin_object ∷ members names fields ++ end_object ∷ [])
+
+-- each object begins a line, and all but the first follow a comma
+abbrev pub before_object : Bool → List ℕ
+before_object true = codes "\n"
+before_object false = codes ",\n"
+
+-- ---- LaTeX
+
+-- whether a byte is printed after a backslash: # $ % & _ { }
 abbrev pub is_latex_sign : ℕ → Bool
 is_latex_sign byte = byte == 35 || byte == 36 || byte == 37 || byte == 38 || byte == 95 || byte == 123 || byte == 125
 
--- the name of a byte that has one in LaTeX: " < > \ ^ | ~
+-- a byte of a text, by its name if it has one: " < > \ ^ | ~
 abbrev pub latex_byte : ℕ → List ℕ
 latex_byte byte =
     if is_latex_sign byte then 92 ∷ byte ∷ [] else
@@ -65,115 +94,48 @@ latex_byte byte =
     if byte == 124 then codes "\\textbar{}" else
     if byte == 126 then codes "\\textasciitilde{}" else byte ∷ []
 
-abbrev pub byte_text : TableFormat → ℕ → List ℕ
-byte_text Csv byte = csv_byte byte
-byte_text Json byte = json_byte byte
-byte_text Latex byte = latex_byte byte
+-- a negative number is set in a formula
+abbrev pub latex_number : Sign → ℕ → List ℕ
+latex_number Plus n = decimal n
+latex_number Minus n = codes "$-" ++ (decimal n ++ codes "$")
 
-unfoldable pub text_of : TableFormat → List ℕ → List ℕ
-text_of format text = quote_of format text ++ (flat_map (byte_text format) text ++ quote_of format text)
+abbrev pub latex_field : FieldValue → List ℕ
+latex_field (Number sign n) = latex_number sign n
+latex_field (Text text) = flat_map latex_byte text
+latex_field Missing = []
 
--- ---- fields
+-- fields, an ampersand between two of them, and the end of the row
+abbrev pub latex_fields : List ℕ → List FieldValue → List ℕ
+latex_fields before [] = codes " \\\\\n"
+latex_fields before (field ∷ fields) = before ++ (latex_field field ++ latex_fields (codes " & ") fields)
 
--- nothing is null in JSON, and empty in the others
-abbrev pub missing_text : TableFormat → List ℕ
-missing_text Csv = []
-missing_text Json = codes "null"
-missing_text Latex = []
+abbrev pub latex_row : List FieldValue → List ℕ
+latex_row fields = latex_fields [] fields
 
--- what a minus has before the digits and after them: in LaTeX it is set in a formula
-abbrev pub before_digits : TableFormat → Sign → List ℕ
-before_digits format Plus = []
-before_digits Csv Minus = codes "-"
-before_digits Json Minus = codes "-"
-before_digits Latex Minus = codes "$-"
+-- how the columns are aligned, as `rrl`, and a rule
+unfoldable pub latex_columns : List ℕ → List ℕ
+latex_columns columns = codes "\\begin{tabular}{" ++ (columns ++ codes "}\n\\toprule\n")
 
-abbrev pub after_digits : TableFormat → Sign → List ℕ
-after_digits format Plus = []
-after_digits Csv Minus = []
-after_digits Json Minus = []
-after_digits Latex Minus = codes "$"
+-- and their names before another rule
+unfoldable pub latex_header : List ℕ → List FieldValue → List ℕ
+latex_header columns names = latex_columns columns ++ (latex_row names ++ codes "\\midrule\n")
 
--- the number of a word: that of -0 is -0
-unfoldable pub signed_field : TableFormat → WordValue → List ℕ
-signed_field format word = before_digits format word.sign ++ (decimal word.magnitude ++ after_digits format word.sign)
+-- ---- a table
 
-abbrev pub field_text : TableFormat → FieldValue → List ℕ
-field_text format (Number n) = decimal n
-field_text format (Signed word) = signed_field format word
-field_text format (Text text) = text_of format text
-field_text format Missing = missing_text format
-
--- what is between two fields
-abbrev pub separator : TableFormat → List ℕ
-separator Csv = codes ","
-separator Json = codes ","
-separator Latex = codes " & "
-
-abbrev pub between : TableFormat → ℕ → List ℕ
-between format at = if at == 0 then [] else separator format
-
--- a field has the name of its column before it in JSON
-abbrev pub name_text : TableFormat → FieldValue → List ℕ
-name_text Csv name = []
-name_text Json name = field_text Json name ++ codes ":"
-name_text Latex name = []
-
--- the field of a column: where a row has none, the name of the column
-abbrev pub field_at : List FieldValue → List FieldValue → ℕ → FieldValue
-field_at names fields at = get_or fields at (get_or names at Missing)
-
-unfoldable pub member_text : TableFormat → List FieldValue → List FieldValue → ℕ → List ℕ
-member_text format names fields at =
-    between format at ++ (name_text format (get_or names at Missing) ++ field_text format (field_at names fields at))
-
--- the fields of a row, for each column one
-abbrev pub members_text : TableFormat → List FieldValue → List FieldValue → List ℕ
-members_text format names fields = flat_map (member_text format names fields) (range_with_len 0 (length names))
-
--- ---- rows
-
--- before a row: the first one follows nothing
-abbrev pub before_row : TableFormat → Bool → List ℕ
-before_row Csv first = []
-before_row Json true = codes "\n{"
-before_row Json false = codes ",\n{"
-before_row Latex first = []
-
-abbrev pub after_row : TableFormat → List ℕ
-after_row Csv = codes "\n"
-after_row Json = codes "}"
-after_row Latex = codes " \\\\\n"
+-- the names of the columns; in JSON each object has them
+abbrev pub header_text : TableFormat → List ℕ → List FieldValue → List ℕ
+header_text Csv columns names = csv_row names
+header_text Json columns names = codes "["
+header_text Latex columns names = latex_header columns names
 
 unfoldable pub row_text : TableFormat → List FieldValue → Bool → List FieldValue → List ℕ
-row_text format names first fields = before_row format first ++ (members_text format names fields ++ after_row format)
+row_text Csv names first fields = csv_row fields
+row_text Json names first fields = before_object first ++ object_text names fields
+row_text Latex names first fields = latex_row fields
 
 abbrev pub rows_text : TableFormat → List FieldValue → Bool → List (List FieldValue) → List ℕ
 rows_text format names first [] = []
 rows_text format names first (row ∷ rows) = row_text format names first row ++ rows_text format names false rows
-
-unfoldable pub before_columns : List ℕ
-before_columns = codes "\\begin{tabular}{"
-
-unfoldable pub after_columns : List ℕ
-after_columns = codes "}\n\\toprule\n"
-
-unfoldable pub after_names : List ℕ
-after_names = codes "\\midrule\n"
-
--- how the columns are aligned, as `rrl`, and a rule
-unfoldable pub latex_columns : List ℕ → List ℕ
-latex_columns columns = before_columns ++ (columns ++ after_columns)
-
--- and a row of their names before another rule
-unfoldable pub latex_header : List ℕ → List FieldValue → List ℕ
-latex_header columns names = latex_columns columns ++ (row_text Latex names true [] ++ after_names)
-
--- the names of the columns: a row without fields; in JSON each object has them
-abbrev pub header_text : TableFormat → List ℕ → List FieldValue → List ℕ
-header_text Csv columns names = row_text Csv names true []
-header_text Json columns names = codes "["
-header_text Latex columns names = latex_header columns names
 
 abbrev pub footer_text : TableFormat → List ℕ
 footer_text Csv = []

@@ -47,7 +47,7 @@ among-right (first ∷ rest) more name h = inr (among-right rest more name h)
 pub print_range : (run : Result PrintAnswer ToolFault) (status : ℕ) → status ≡ status_of_print run → status ≤ 3
 print_range (Err fault) status e = omega (arith, e)
 print_range (Ok (answers.Refused fault)) status e = omega (arith, e)
-print_range (Ok (answers.NoPart refusal)) status e = omega (arith, e)
+print_range (Ok (answers.NoTable refusal)) status e = omega (arith, e)
 print_range (Ok (answers.Ran ran)) status e = go ran.end e
   where
     go : (end : RunEnd) → status ≡ status_of_end end → status ≤ 3

@@ -23,7 +23,7 @@ use Rattle.mix_run.specs.law.Truncation.{parts-read}
 use Rattle.mix_stream.specs.Stream.{CountsFailure}
 use Rattle.mix_tool.specs.Ending.{IsAmong}
 use Rattle.mix_tool.specs.Plan.{names_of_run}
-use Rattle.mix_tool.specs.Run.{Given, Prints, options_of, part_of, print_outcome, run_draws, run_output, units_asked, with_text, without_file}
+use Rattle.mix_tool.specs.Run.{Given, Prints, options_of, subject_of, print_outcome, run_draws, run_output, units_asked, with_text, without_file}
 use Rattle.mix_tool.specs.declared.read.RunFault.{RunFault}
 use Rattle.mix_tool.proofs.EndingLemmas.{among-more, among-right}
 
@@ -93,7 +93,7 @@ pub prints-no_units : (run : RunPlan) (given : Given) (read source own : List �
 unfolding run_output
 prints-no_units run given read source own program fault told e s o made h =
     let deck : own ≡ (parts_of given.source).deck = o ∙ (parts-read given.source read e).1 in
-    let part = part_of (option_map string_bytes run.part) in
+    let part = subject_of (option_map string_bytes run.subject) in
     let units = units_asked run (parts_of given.source).deck given in
     let same : run_output run given ≡ print_outcome (options_of run) part (Ok program) units =
     ap (λ made. print_outcome (options_of run) part made units) (made-of run given read source (Ok program) e s made) in
@@ -104,7 +104,7 @@ prints-no_units run given read source own program fault told e s o made h =
 pub prints-made : (run : RunPlan) (given : Given) (read source own : List ℕ) (program : ProgramValue) (units : UnitsState) (done : Result Printed ToolFault)
     (old new : Option (List ℕ)) → read ≡ take 41943041 given.source → source ≡ (parts_of read).source → own ≡ (parts_of read).deck
     → assembly source ≡ Ok program → units_asked run own given ≡ Ok units
-    → Prints (outcome_of_run (options_of run) (part_of (option_map string_bytes run.part)) program units) done old new
+    → Prints (outcome_of_run (options_of run) (subject_of (option_map string_bytes run.subject)) program units) done old new
     → Prints (run_output run given) done old new
 unfolding run_output
 prints-made run given read source own program units done old new e s o made asked prints =
@@ -115,7 +115,7 @@ prints-made run given read source own program units done old new e s o made aske
 pub draws-made : (run : RunPlan) (given : Given) (read source own : List ℕ) (program : ProgramValue) (units : UnitsState) (done : Result Printed ToolFault)
     → read ≡ take 41943041 given.source → source ≡ (parts_of read).source → own ≡ (parts_of read).deck
     → assembly source ≡ Ok program → units_asked run own given ≡ Ok units
-    → IfOk done (λ p. DrawnRun (options_of run) (part_of (option_map string_bytes run.part)) program units p.map.items)
+    → IfOk done (λ p. DrawnRun (options_of run) (subject_of (option_map string_bytes run.subject)) program units p.map.items)
     → IfOk done (λ p. run_draws run given p.map.items)
 unfolding run_draws
 draws-made run given read source own program units done e s o made asked drawn =

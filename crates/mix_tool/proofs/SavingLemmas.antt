@@ -30,7 +30,7 @@ ends-saved (name ∷ names) status = inl refl
 abbrev pub AfterEnd : Result PrintAnswer ToolFault → Type 0 → Type 0 → Type 0
 AfterEnd (Ok (answers.Ran ran)) Ended Other = Ended
 AfterEnd (Ok (answers.Refused fault)) Ended Other = Other
-AfterEnd (Ok (answers.NoPart refusal)) Ended Other = Other
+AfterEnd (Ok (answers.NoTable refusal)) Ended Other = Other
 AfterEnd (Err fault) Ended Other = Other
 
 either-status : (names : List (List ℕ)) (status answered : ℕ) → EndsWith names status answered → (answered ≡ status) ⊎ (answered ≡ 2)
@@ -41,7 +41,7 @@ by-end : (names : List (List ℕ)) (run : Result PrintAnswer ToolFault) (status 
     → EndsWith (saved_after names run) status answered → AfterEnd run Ended Other → ByEnd answered Ended Other
 by-end names (Err fault) status answered Ended Other e end h = rw (end ∙ e) (inl h)
 by-end names (Ok (answers.Refused fault)) status answered Ended Other e end h = rw (end ∙ e) h
-by-end names (Ok (answers.NoPart refusal)) status answered Ended Other e end h = rw (end ∙ e) (inl h)
+by-end names (Ok (answers.NoTable refusal)) status answered Ended Other e end h = rw (end ∙ e) (inl h)
 by-end names (Ok (answers.Ran ran)) status answered Ended Other e end h =
     ⊎_elim (λ same. go ran.end answered (same ∙ e)) (λ two. rw two (inr h)) (either-status names status answered end)
   where
@@ -55,7 +55,7 @@ created-after : (names : List (List ℕ)) (run : Result PrintAnswer ToolFault) (
     → AfterEnd run (Asks old new names) (Asks old new [])
 created-after names (Ok (answers.Ran ran)) old new h = h
 created-after names (Ok (answers.Refused fault)) old new h = h
-created-after names (Ok (answers.NoPart refusal)) old new h = h
+created-after names (Ok (answers.NoTable refusal)) old new h = h
 created-after names (Err fault) old new h = h
 
 saves-after : (outcome : PrintOutcome) (IsDrawn : List ℕ → Type 0) (run : Result Printed ToolFault) (keep svg : Option (List ℕ)) (a b : Option (List ℕ))
@@ -71,7 +71,7 @@ saves-after outcome IsDrawn (Ok printed) keep svg a b old new prints drawn saved
         → AfterEnd (Ok answer) ((m : List ℕ) × IsDrawn m × (new ≡ noted old (saved_as keep (kept_of outcome) ++ saved_as svg m))) (new ≡ old)
     go (answers.Ran ran) is = (map, drawn, is ∙ ap (λ (d : List ℕ). noted old (saved_as keep d ++ saved_as svg map)) (sym (ap kept_of prints.0)))
     go (answers.Refused fault) is = is
-    go (answers.NoPart refusal) is = is
+    go (answers.NoTable refusal) is = is
 
 -- and it has saved its texts
 pub saves-run : (outcome : PrintOutcome) (IsDrawn : List ℕ → Type 0) (names : List (List ℕ)) (run : Result Printed ToolFault) (keep svg : Option (List ℕ))

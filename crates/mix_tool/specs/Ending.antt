@@ -109,7 +109,7 @@ TalkRuns all origin program units talker text status before after =
     (run : Result ℕ ToolFault) × TalksWith all origin program units talker text run after.input before.out after.out × (status ≡ status_of_run run)
 
 -- the status of a run: 0 at a halt, 3 where a step meets a fault or the conflict that ends a strict run, or the steps are used up, 1 where the
--- source is refused, 2 where the part that a table is to be of is none
+-- source is refused, 2 where there is no table of what is asked for
 abbrev pub status_of_end : RunEnd → ℕ
 status_of_end ends.Halted = 0
 status_of_end (ends.Faulted fault) = 3
@@ -119,7 +119,7 @@ status_of_end ends.UsedUp = 3
 abbrev pub status_of_answer : PrintAnswer → ℕ
 status_of_answer (answers.Ran ran) = status_of_end ran.end
 status_of_answer (answers.Refused fault) = 1
-status_of_answer (answers.NoPart refusal) = 2
+status_of_answer (answers.NoTable refusal) = 2
 
 abbrev pub status_of_print : Result PrintAnswer ToolFault → ℕ
 status_of_print (Ok answer) = status_of_answer answer
@@ -134,7 +134,7 @@ answer_of (Err fault) = Err fault
 abbrev pub saved_after : {A : Type 0} → List A → Result PrintAnswer ToolFault → List A
 saved_after all (Ok (answers.Ran ran)) = all
 saved_after all (Ok (answers.Refused fault)) = []
-saved_after all (Ok (answers.NoPart refusal)) = []
+saved_after all (Ok (answers.NoTable refusal)) = []
 saved_after all (Err fault) = []
 
 -- the status is that of the run, or 2 if a file that is created for it is not written

@@ -13,7 +13,7 @@ use Rattle.mix_run.specs.Output.{bundle_output, list_output}
 use Rattle.mix_run.specs.declared.talk.Streams.{Streams}
 use Rattle.mix_run.specs.declared.talk.aside.Talker.{Talker}
 use Rattle.mix_tool.specs.Ending.{Runs, Saves, Seen, TalkRuns, Tells, not_opened}
-use Rattle.mix_tool.specs.Run.{Given, IsUnread, part_of, run_draws, run_output}
+use Rattle.mix_tool.specs.Run.{Given, IsUnread, subject_of, run_draws, run_output}
 use Rattle.mix_tool.specs.Told.{PrintRuns}
 use Rattle.mix_run.specs.Opening.{Files, Missing, Saved, WhyUnsaved, missing_of, named, opened_text, text_of}
 use Rattle.mix_tool.specs.declared.texts.Names.{Names}
@@ -167,7 +167,7 @@ RunsOn all (plan.Check sources json) given talker status before after =
     Runs (map string_bytes sources.items) (check_output json (named_of all (map string_bytes sources.items))) status before after
 RunsOn all (plan.Debug session) given talker status before after = DebugsOn all session given talker status before after
 RunsOn all (plan.Run run) given talker status before after =
-    PrintRuns (run_output run given) (names_of_run run) (string_bytes run.source) (part_of (option_map string_bytes run.part)) (option_map string_bytes run.keep)
+    PrintRuns (run_output run given) (names_of_run run) (string_bytes run.source) (subject_of (option_map string_bytes run.subject)) (option_map string_bytes run.keep)
     (option_map string_bytes run.svg) status before after
 RunsOn all plan.Dap given talker status before after = status ≤ 2
 RunsOn all plan.Lsp given talker status before after = status ≤ 2

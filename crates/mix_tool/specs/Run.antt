@@ -54,16 +54,17 @@ format_of format.Latex = table.Latex
 -- what a table is of
 abbrev pub rows_of : TableOf → RunRows
 rows_of rows.Counts = of.Counts
+rows_of rows.Formulas = of.Formulas
 rows_of rows.Trace = of.Trace
 rows_of rows.Writes = of.Writes
 
 abbrev pub table_of : AskedTable → RunTable
 table_of asked = record { of = rows_of asked.of; format = format_of asked.format }
 
--- the part whose changes a table has; no text is the name of none
-abbrev pub part_of : Option (List ℕ) → List ℕ
-part_of None = []
-part_of (Some part) = part
+-- what a table is about: the part whose changes it has, or the values of names; no text is the name of none, and gives none
+abbrev pub subject_of : Option (List ℕ) → List ℕ
+subject_of None = []
+subject_of (Some subject) = subject
 
 abbrev pub options_of : RunPlan → PrintOptions
 options_of run =
@@ -90,26 +91,26 @@ units_asked run own given =
 
 -- an assembled source, with its units
 abbrev pub print_outcome : PrintOptions → List ℕ → Result ProgramValue AsmFault → Result UnitsState DeckFault → PrintOutcome
-print_outcome options part (Err fault) units = Answered [] (Refused fault) []
-print_outcome options part (Ok program) (Err fault) = UnitsRefused fault
-print_outcome options part (Ok program) (Ok units) = outcome_of_run options part program units
+print_outcome options subject (Err fault) units = Answered [] (Refused fault) []
+print_outcome options subject (Ok program) (Err fault) = UnitsRefused fault
+print_outcome options subject (Ok program) (Ok units) = outcome_of_run options subject program units
 
 -- what a run of a plan writes, answers and keeps, by its texts: a source or a bundle, and those that are named beside it
 unfoldable pub run_output : RunPlan → Given → PrintOutcome
 run_output run given =
     let parts = parts_of given.source in
-    print_outcome (options_of run) (part_of (option_map string_bytes run.part)) (assembly parts.source) (units_asked run parts.deck given)
+    print_outcome (options_of run) (subject_of (option_map string_bytes run.subject)) (assembly parts.source) (units_asked run parts.deck given)
 
 -- and which map it draws
 abbrev pub DrawnProgram : PrintOptions → List ℕ → Result ProgramValue AsmFault → Result UnitsState DeckFault → List ℕ → Type 0
-DrawnProgram options part (Err fault) units map = map ≡ []
-DrawnProgram options part (Ok program) (Err fault) map = map ≡ []
-DrawnProgram options part (Ok program) (Ok units) map = DrawnRun options part program units map
+DrawnProgram options subject (Err fault) units map = map ≡ []
+DrawnProgram options subject (Ok program) (Err fault) map = map ≡ []
+DrawnProgram options subject (Ok program) (Ok units) map = DrawnRun options subject program units map
 
 unfoldable pub run_draws : RunPlan → Given → List ℕ → Type 0
 run_draws run given map =
     let parts = parts_of given.source in
-    DrawnProgram (options_of run) (part_of (option_map string_bytes run.part)) (assembly parts.source) (units_asked run parts.deck given) map
+    DrawnProgram (options_of run) (subject_of (option_map string_bytes run.subject)) (assembly parts.source) (units_asked run parts.deck given) map
 
 -- What a call answers, writes and keeps is the outcome. Where memory is refused, or a write fails, a beginning of its bytes has been written;
 -- where a read fails, none.

@@ -92,16 +92,16 @@ ran_told name ran =
     conflicts_told name ran.conflicts.first ran.conflict_line ran.conflicts.count
     ++ end_told (place_text name ran.line) (at_text ran.loc ran.clock) ran.end
 
--- `mixrev: C2 bad argument: PART`
-abbrev pub no_part : Refusal → List ℕ → List ℕ
-no_part refusal part = codes "mixrev: " ++ (refusal_text refusal ++ (codes ": " ++ (part ++ 10 ∷ [])))
+-- no table of a part, or by values of names: `mixrev: C2 bad argument: PART`
+abbrev pub no_table : Refusal → List ℕ → List ℕ
+no_table refusal subject = codes "mixrev: " ++ (refusal_text refusal ++ (codes ": " ++ (subject ++ 10 ∷ [])))
 
 -- what is told of an answer: of a refused source nothing more than what is wrong with it
 abbrev pub answer_told : List ℕ → List ℕ → Option (List ℕ) → Result PrintAnswer ToolFault → List (List ℕ)
-answer_told name part file (Ok (answers.Ran ran)) = ran_told name ran
-answer_told name part file (Ok (answers.Refused fault)) = []
-answer_told name part file (Ok (answers.NoPart refusal)) = no_part refusal part ∷ []
-answer_told name part file (Err fault) = report fault file ∷ []
+answer_told name subject file (Ok (answers.Ran ran)) = ran_told name ran
+answer_told name subject file (Ok (answers.Refused fault)) = []
+answer_told name subject file (Ok (answers.NoTable refusal)) = no_table refusal subject ∷ []
+answer_told name subject file (Err fault) = report fault file ∷ []
 
 -- ---- what is saved
 
@@ -126,7 +126,7 @@ IsRefusable (Some name) went = ⊤
 abbrev pub at_end : Result PrintAnswer ToolFault → Option (List ℕ) → Option (List ℕ)
 at_end (Ok (answers.Ran ran)) name = name
 at_end (Ok (answers.Refused fault)) name = None
-at_end (Ok (answers.NoPart refusal)) name = None
+at_end (Ok (answers.NoTable refusal)) name = None
 at_end (Err fault) name = None
 
 -- the status of a run, or 2 where a text is not saved
@@ -148,8 +148,8 @@ SavesTold run keep svg status answered refusal refusal_after old new =
 -- source, stands what is told of its answer, and of a read that failed one of its files; and then
 -- its texts were saved.
 abbrev pub PrintRuns : PrintOutcome → List (List ℕ) → List ℕ → List ℕ → Option (List ℕ) → Option (List ℕ) → ℕ → Seen → Seen → Type 0
-PrintRuns outcome files name part keep svg status before after =
+PrintRuns outcome files name subject keep svg status before after =
     (run : Result Printed ToolFault) × (file : Option (List ℕ)) × (source : Errors) × (answer : Errors)
-    × Prints outcome run before.out after.out × IsFileOf files file × TellsAll (answer_told name part file (answer_of run)) source answer
+    × Prints outcome run before.out after.out × IsFileOf files file × TellsAll (answer_told name subject file (answer_of run)) source answer
     × SavesTold (answer_of run) keep svg (status_of_print (answer_of run)) status before.refusal after.refusal answer
     (record { told = after.errors; failed = after.failed })

@@ -2,7 +2,7 @@
 
 ghost use Rattle.std.specs.Prelude.{◌≡◌, option_map, string_bytes};
 ghost use Rattle.mix_tool.specs.Plan.{names_in, names_of};
-ghost use Rattle.mix_tool.specs.Run.{format_of, options_of, part_of, rows_of};
+ghost use Rattle.mix_tool.specs.Run.{format_of, options_of, subject_of, rows_of};
 
 use crate::texts::Names;
 use mix_plan::{Plan, RunPlan};
@@ -61,17 +61,18 @@ fn rows_of(rows: mix_plan::TableOf) -> TableOf
 {
     match rows {
         mix_plan::TableOf::Counts => TableOf::Counts,
+        mix_plan::TableOf::Formulas => TableOf::Formulas,
         mix_plan::TableOf::Trace => TableOf::Trace,
         mix_plan::TableOf::Writes => TableOf::Writes,
     }
 }
 
-/// The part whose changes a table has.
-pub(crate) fn part_of(part: &Option<String>) -> &str
-    ensures { result.now ≡ part_of (option_map string_bytes part.now) }
+/// What a table is about: the part whose changes it has, or the values of names.
+pub(crate) fn subject_of(subject: &Option<String>) -> &str
+    ensures { result.now ≡ subject_of (option_map string_bytes subject.now) }
 {
-    match part {
-        Some(part) => part.as_str(),
+    match subject {
+        Some(subject) => subject.as_str(),
         None => "",
     }
 }

@@ -86,7 +86,7 @@ pub(crate) fn save_files<O: Opener, E: Out>(
                 }
             }
             PrintAnswer::Refused(_) => status,
-            PrintAnswer::NoPart(_) => status,
+            PrintAnswer::NoTable(_) => status,
         },
         Err(_) => status,
     }

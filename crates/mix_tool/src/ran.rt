@@ -3,10 +3,10 @@
 ghost use Rattle.std.specs.Prelude.{◌≡◌, IfOk, codes, option_map, string_bytes};
 ghost use Rattle.mix_machine.specs.Fault.{fault_line};
 ghost use Rattle.mix_tool.specs.Ending.{answer_of, status_of_end, status_of_print};
-ghost use Rattle.mix_tool.specs.Run.{part_of};
-ghost use Rattle.mix_tool.specs.Told.{TellsAll, answer_told, at_text, beside, conflict_told, end_told, no_part, place_text, ran_told, stop_text};
+ghost use Rattle.mix_tool.specs.Run.{subject_of};
+ghost use Rattle.mix_tool.specs.Told.{TellsAll, answer_told, at_text, beside, conflict_told, end_told, no_table, place_text, ran_told, stop_text};
 
-use crate::asked::part_of;
+use crate::asked::subject_of;
 use crate::conflicts::{At, conflict_line, place, tell_conflicts};
 use crate::ending::{status_beside, tell_beside};
 use mix_cli::FAILED;
@@ -90,16 +90,16 @@ fn ran_status<E: Out>(alloc: Global, name: &str, ran: &RanTo, errors: &mut E) ->
     status_of_end(ran.end)
 }
 
-// The table has no such part: `mixrev: C2 bad argument: PART`.
-fn no_part_line(alloc: Global, part: &str, refusal: Refusal) -> Result<String, AllocError>
-    ensures { IfOk result (λ s. string_bytes s ≡ no_part refusal part.now) }
+// There is no table of such a part, or by such values: `mixrev: C2 bad argument: PART`.
+fn no_table_line(alloc: Global, subject: &str, refusal: Refusal) -> Result<String, AllocError>
+    ensures { IfOk result (λ s. string_bytes s ≡ no_table refusal subject.now) }
 {
-    let text = format!(in alloc; "mixrev: {refusal}: {part}\n")?;
+    let text = format!(in alloc; "mixrev: {refusal}: {subject}\n")?;
     Ok(text)
 }
 
-/// The status of what a run answers. A fault of the tool is told, and why the part of its table is
-/// none; of a run that came to its end which of its steps conflict with a transfer under way, and
+/// The status of what a run answers. A fault of the tool is told, and why there is no table of what
+/// is asked for; of a run that came to its end which of its steps conflict with a transfer under way, and
 /// where it came to.
 pub(crate) fn print_status<E: Out>(
     alloc: Global,
@@ -110,7 +110,7 @@ pub(crate) fn print_status<E: Out>(
 ) -> u8
     ensures status { result ≡ status_of_print (answer_of printed.now) }
     ensures told { TellsAll
-        (answer_told (string_bytes plan.now.source) (part_of (option_map string_bytes plan.now.part)) (option_map (λ n. n.now) file.entry) (answer_of printed.now))
+        (answer_told (string_bytes plan.now.source) (subject_of (option_map string_bytes plan.now.subject)) (option_map (λ n. n.now) file.entry) (answer_of printed.now))
         (beside E.told E.failed errors.old) (beside E.told E.failed errors.new) }
 {
     match printed {
@@ -118,9 +118,9 @@ pub(crate) fn print_status<E: Out>(
         Ok(printed) => match printed.answer {
             PrintAnswer::Ran(ran) => ran_status(alloc, plan.source.as_str(), &ran, errors),
             PrintAnswer::Refused(_) => SOURCE_REFUSED,
-            PrintAnswer::NoPart(refusal) => {
-                let part = part_of(&plan.part);
-                tell_beside(no_part_line(alloc, part, refusal), errors);
+            PrintAnswer::NoTable(refusal) => {
+                let subject = subject_of(&plan.subject);
+                tell_beside(no_table_line(alloc, subject, refusal), errors);
                 FAILED
             }
         },

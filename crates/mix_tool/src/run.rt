@@ -4,10 +4,10 @@ ghost use Rattle.std.specs.Prelude.{◌≡◌, ◌≢◌, ◌<◌, ◌≤◌, �
 ghost use Rattle.mix_stream.specs.Stream.{CountsFailure};
 ghost use Rattle.mix_tool.specs.Ending.{Creates, IsAmong, Saves};
 ghost use Rattle.mix_tool.specs.Plan.{AreFresh, HasFailed, HoldTexts, names_of_run, saved_names, seen};
-ghost use Rattle.mix_tool.specs.Run.{Given, Prints, part_of, run_draws, run_output, without_file};
+ghost use Rattle.mix_tool.specs.Run.{Given, Prints, subject_of, run_draws, run_output, without_file};
 ghost use Rattle.mix_tool.specs.Told.{PrintRuns};
 
-use crate::asked::{options_of, part_of};
+use crate::asked::{options_of, subject_of};
 use crate::keep::save_files;
 use crate::ran::print_status;
 use crate::read::{RunFault, of_file, read_text, units_of_run};
@@ -60,8 +60,8 @@ fn print_texts<'p, T: In, R, W: Out, E: Out>(
                 Ok(units) => units,
                 Err(broken) => return Err(broken),
             };
-            let (options, part) = (options_of(plan), part_of(&plan.part).as_bytes());
-            let printed = run_printed(alloc, program, units, options, part, &mut streams.out);
+            let (options, subject) = (options_of(plan), subject_of(&plan.subject).as_bytes());
+            let printed = run_printed(alloc, program, units, options, subject, &mut streams.out);
             of_file(printed, source)
         }
     }
@@ -94,7 +94,7 @@ pub(crate) fn run_texts<O: Opener, R: In, W: Out, E: Out>(
     requires fresh { AreFresh O.Reader.failed texts }
     requires out_count { W.failed streams.old.out < 2 ^ 64 - 1 }
     ensures done { (given : Given) → HoldTexts O.Reader.rest texts given
-        → PrintRuns (run_output plan.now given) (names_of_run plan.now) (string_bytes plan.now.source) (part_of (option_map string_bytes plan.now.part))
+        → PrintRuns (run_output plan.now given) (names_of_run plan.now) (string_bytes plan.now.source) (subject_of (option_map string_bytes plan.now.subject))
         (option_map string_bytes plan.now.keep) (option_map string_bytes plan.now.svg) result
         (seen R.rest W.told E.told E.failed (O.refusal files.old) streams.old) (seen R.rest W.told E.told E.failed (O.refusal files.new) streams.new) }
     ensures created { Creates (saved_names plan.now) result (O.created files.old) (O.created files.new) }

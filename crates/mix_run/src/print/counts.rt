@@ -1,4 +1,4 @@
-//! A program run in a session, and a table of how often each instruction was executed, and how long that took.
+//! A program run in a session, and the table at its end: that of how often each instruction was executed, and how long that took, or that of the formulas.
 ghost use Rattle.std.specs.Prelude.{◌≡◌, ◌<◌, ◌++◌, ◌-◌, ◌^◌, ◌==◌, ◌&&◌, [], IfOk, OnOk, min, true};
 ghost use Rattle.mix_session.specs.Command.{after};
 ghost use Rattle.mix_session.specs.Session.{opened};
@@ -13,6 +13,7 @@ ghost use Rattle.mix_run.specs.declared.print.PrintAnswer.TheVariants.{Ran};
 use crate::fault::ToolFault;
 use crate::print::Printed;
 use crate::print::drawn::draw_if;
+use crate::print::end_table::EndTable;
 use crate::print::loaded::left;
 use crate::print::options::PrintOptions;
 use crate::print::sheet::{Sheet, line_field};
@@ -20,7 +21,7 @@ use crate::print::steps::{RunEnd, Stepped};
 use crate::table::{Field, TableFormat, add_footer, add_header};
 use mix_machine::Units;
 use mix_refused::Memory;
-use mix_session::{End, Session, Stops, Tally, Way};
+use mix_session::{End, Session, Stops, Tally, Way, tally_in};
 use mix_stream::{Out, write_all};
 use mix_word::CELLS;
 use mixal_asm::Program;
@@ -29,23 +30,23 @@ use std::alloc::Global;
 /// The most steps that are counted.
 const MAX_COUNTED: u64 = 4_294_967_295;
 
-/// A program, run in a session, and the table of its counts.
+/// A program, run in a session, and the table at its end.
 #[tactic(auto, unfolding(crate::specs::PrintOutput::counted_outcome, crate::specs::Counted::counted_run))]
 pub(super) fn count_loaded<W: Out>(
     alloc: Global,
     program: Program,
     units: Units,
-    format: TableFormat,
+    table: &EndTable<'_>,
     options: PrintOptions,
     out: &mut W,
 ) -> Result<Printed, ToolFault>
     requires { W.failed out.old < 2 ^ 64 - 1 }
-    ensures { Leaves (counted_outcome format options program units)
+    ensures { Leaves (counted_outcome table.now options program units)
         (DrawnIf options.map program (after (counted_steps options.steps (opened program units).timeline))) result
         (W.told out.old) (W.failed out.old) (W.told out.new) (W.failed out.new) }
 {
     let mut session = Session::open(alloc, program, units)?;
-    let made = counted(alloc, &mut session, format, options)?;
+    let made = counted(alloc, &mut session, table, options)?;
     let (text, printed) = made;
     write_all(out, &text)?;
     Ok(printed)
@@ -55,15 +56,15 @@ pub(super) fn count_loaded<W: Out>(
 fn counted(
     alloc: Global,
     session: &mut Session,
-    format: TableFormat,
+    table: &EndTable<'_>,
     options: PrintOptions,
 ) -> Result<(Vec<u8>, Printed), Memory>
-    ensures { let run = counted_run format options.steps session.old in let program = session.old.program in
+    ensures { let run = counted_run table.now options.steps session.old in let program = session.old.program in
         IfOk result (λ r. (r.0.items ≡ run.bytes) × (r.1.answer ≡ Ran (ran_to program run)) × (r.1.deck.items ≡ kept_if options.keep run.world)
         × DrawnIf options.map program (after (counted_steps options.steps session.old.timeline)) r.1.map.items) }
 {
     let end = run_steps(session, options.steps)?;
-    let text = counts_table(alloc, session, format)?;
+    let text = table.text(alloc, session)?;
     let map = draw_if(alloc, session, options.map)?;
     let stepped = Stepped::alone(end);
     let printed = left(
@@ -111,17 +112,21 @@ fn run_end(end: End) -> RunEnd
     }
 }
 
-// The table of all cells.
+/// The table of all cells.
 #[tactic(auto, unfolding(crate::specs::Counted::counts_table, crate::specs::Table::table_text))]
-fn counts_table(alloc: Global, session: &Session, format: TableFormat) -> Result<Vec<u8>, Memory>
+pub(super) fn counts_table(
+    alloc: Global,
+    session: &Session,
+    format: TableFormat,
+) -> Result<Vec<u8>, Memory>
     ensures { IfOk result (λ text. text.items ≡ counts_table format session.now.program session.now.timeline) }
 {
     let tallies = session.counts(alloc)?;
     let names = [
-        Field::text(b"line"),
-        Field::text(b"location"),
-        Field::text(b"count"),
-        Field::text(b"time"),
+        Field::text("line"),
+        Field::text("location"),
+        Field::text("count"),
+        Field::text("time"),
     ];
     let sheet = Sheet {
         program: session.program(),
@@ -129,7 +134,7 @@ fn counts_table(alloc: Global, session: &Session, format: TableFormat) -> Result
         names: &names,
     };
     let mut text = Vec::new(alloc);
-    add_header(alloc, &mut text, format, b"rrrr", &names)?;
+    add_header(alloc, &mut text, format, "rrrr", &names)?;
     add_rows(alloc, &sheet, &tallies.cells, CELLS, &mut text)?;
     add_footer(&mut text, format)?;
     Ok(text)
@@ -155,16 +160,6 @@ fn add_rows(
         left -= 1;
     }
     Ok(())
-}
-
-// The tally of a cell.
-fn tally_in(tallies: &[Tally], number: u16) -> Tally
-    ensures { result ≡ tally_in tallies.now number }
-{
-    match tallies.get(usize::from(number)) {
-        None => Tally { count: 0, time: 0 },
-        Some(tally) => *tally,
-    }
 }
 
 // The row of a cell, if it was executed; whether the next row is the first.

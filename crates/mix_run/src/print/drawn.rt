@@ -3,7 +3,7 @@ ghost use Rattle.std.specs.Prelude.{◌≡◌, ◌<◌, ◌-◌, ◌^◌, IfOk};
 ghost use Rattle.mix_session.specs.Command.{after};
 ghost use Rattle.mix_session.specs.Change.{world_at};
 ghost use Rattle.mix_run.specs.Counted.{counted_steps};
-ghost use Rattle.mix_run.specs.Drawn.{DrawnIf, DrawnRun};
+ghost use Rattle.mix_run.specs.Drawn.{DrawnIf, DrawnSteps};
 ghost use Rattle.mix_run.specs.Map.{IsMap};
 ghost use Rattle.mix_run.specs.PrintOutput.{Leaves, answered, printed_outcome};
 ghost use Rattle.mix_run.specs.StepTable.{run_told};
@@ -35,14 +35,14 @@ pub(super) fn tell_loaded<W: Out>(
     out: &mut W,
 ) -> Result<Printed, ToolFault>
     requires { W.failed out.old < 2 ^ 64 - 1 }
-    ensures { Leaves (printed_outcome options part.now program units) (DrawnRun options part.now program units) result
+    ensures { Leaves (printed_outcome options part.now program units) (DrawnSteps options part.now program units) result
         (W.told out.old) (W.failed out.old) (W.told out.new) (W.failed out.new) }
 {
     let mut session = Session::open(alloc, program, units)?;
     let cell = cell_named(alloc, part)?;
     match step_table(&session, options.table, part, &cell) {
         Err(refusal) => Ok(Printed {
-            answer: PrintAnswer::NoPart(refusal),
+            answer: PrintAnswer::NoTable(refusal),
             deck: Vec::new(alloc),
             map: Vec::new(alloc),
         }),

@@ -32,10 +32,12 @@ impl UnitSet {
     };
 }
 
-/// What a table is of: how often each instruction was executed, or each step, or each step that altered a part of the machine.
+/// What a table is of: how often each instruction was executed, or that of each line with a formula beside the formula's value, or each step, or each step
+/// that altered a part of the machine.
 #[derive(Clone, Copy)]
 pub enum TableOf {
     Counts,
+    Formulas,
     Trace,
     Writes,
 }
@@ -62,8 +64,8 @@ pub struct PrintOptions {
     pub strict: bool,
     /// Whether the deck of what the units hold at the end is given.
     pub keep: bool,
-    /// The table that is written instead of the rows and the lines of the steps. Such a run is never strict. For that of the counts it keeps
-    /// its history, so many steps take much memory, and does at most 4,294,967,295 steps.
+    /// The table that is written instead of the rows and the lines of the steps. Such a run is never strict. For that of the counts or the
+    /// formulas it keeps its history, so many steps take much memory, and does at most 4,294,967,295 steps.
     pub table: Option<AskedTable>,
     /// Whether the map of its steps is given. For that the program is run in a session too, which keeps its history, does at most 4,294,967,295
     /// steps, and is never strict.

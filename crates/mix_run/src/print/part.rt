@@ -47,7 +47,7 @@ fn table_of(
     ensures { result ≡ table_of asked.of asked (part_named session.now part.now) }
 {
     match asked.of {
-        TableOf::Counts => Ok(None),
+        TableOf::Counts | TableOf::Formulas => Ok(None),
         TableOf::Trace => Ok(Some(StepTable {
             format: asked.format,
             part: None,

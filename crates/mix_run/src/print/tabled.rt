@@ -43,22 +43,22 @@ pub(super) fn write_table<W: Out>(
     match table.part {
         None => {
             let names = [
-                Field::text(b"change"),
-                Field::text(b"line"),
-                Field::text(b"location"),
-                Field::text(b"instruction"),
-                Field::text(b"A"),
-                Field::text(b"X"),
-                Field::text(b"I1"),
-                Field::text(b"I2"),
-                Field::text(b"I3"),
-                Field::text(b"I4"),
-                Field::text(b"I5"),
-                Field::text(b"I6"),
-                Field::text(b"J"),
-                Field::text(b"overflow"),
-                Field::text(b"comparison"),
-                Field::text(b"clock"),
+                Field::text("change"),
+                Field::text("line"),
+                Field::text("location"),
+                Field::text("instruction"),
+                Field::text("A"),
+                Field::text("X"),
+                Field::text("I1"),
+                Field::text("I2"),
+                Field::text("I3"),
+                Field::text("I4"),
+                Field::text("I5"),
+                Field::text("I6"),
+                Field::text("J"),
+                Field::text("overflow"),
+                Field::text("comparison"),
+                Field::text("clock"),
             ];
             let sheet = Sheet {
                 program,
@@ -69,11 +69,11 @@ pub(super) fn write_table<W: Out>(
         }
         Some(_) => {
             let names = [
-                Field::text(b"change"),
-                Field::text(b"line"),
-                Field::text(b"location"),
-                Field::text(b"before"),
-                Field::text(b"after"),
+                Field::text("change"),
+                Field::text("line"),
+                Field::text("location"),
+                Field::text("before"),
+                Field::text("after"),
             ];
             let sheet = Sheet {
                 program,
@@ -86,12 +86,12 @@ pub(super) fn write_table<W: Out>(
 }
 
 // How the columns are aligned.
-fn alignment(part: &Option<Part>) -> &'static [u8]
+fn alignment(part: &Option<Part>) -> &'static str
     ensures { result.now ≡ columns_of part.now }
 {
     match part {
-        None => b"rrrlrrrrrrrrrccr",
-        Some(_) => b"rrrrr",
+        None => "rrrlrrrrrrrrrccr",
+        Some(_) => "rrrrr",
     }
 }
 

@@ -1,29 +1,24 @@
-//! A field of a table, and what is written of it.
-ghost use Rattle.std.specs.Prelude.{◌≡◌, ◌++◌, OnOk};
-ghost use Rattle.std.specs.Fmt.{decimal};
-ghost use Rattle.mix_run.specs.Table.{FieldValue, after_digits, before_digits, field_text, missing_text, name_text, signed_field};
-ghost use Rattle.mix_run.specs.Table.FieldValue.{Missing};
+//! A field of a table.
+ghost use Rattle.std.specs.Prelude.{◌≡◌, IfOk, string_bytes};
+ghost use Rattle.mix_word.specs.Instruction.{signed_text};
+ghost use Rattle.mix_run.specs.Table.{FieldValue, name_of, plain_text, sign_of, signed, unsigned, whole};
 
-use crate::table::TableFormat;
-use crate::table::text::add_text;
-use mix_refused::Memory;
 use mix_word::{Sign, Word};
-use std::alloc::Global;
+use std::alloc::{AllocError, Global};
 use std::marker::Model;
 
-// What a field is.
+/// What a field is.
 #[derive(Drop)]
-enum Kind<'a> {
-    Number(u128),
-    Signed(Word),
-    Text(&'a [u8]),
+pub(super) enum Kind<'a> {
+    Number(Sign, u128),
+    Text(&'a str),
     Missing,
 }
 
-/// A field of a table: a number, a word as a number with its sign, a text, or nothing.
+/// A field of a table: a number with its sign, which -0 has too, a text, or nothing.
 #[derive(Drop)]
 pub(crate) struct Field<'a> {
-    kind: Kind<'a>,
+    pub(super) kind: Kind<'a>,
 }
 
 impl<'a> Model for Field<'a> {
@@ -36,22 +31,30 @@ impl<'a> Model for Field<'a> {
 
 impl<'a> Field<'a> {
     pub(crate) const fn number(number: u128) -> Field<'a>
-        ensures { result ≡ FieldValue.Number number }
+        ensures { result ≡ unsigned number }
     {
         Field {
-            kind: Kind::Number(number),
+            kind: Kind::Number(Sign::Plus, number),
         }
     }
 
-    pub(crate) const fn signed(word: Word) -> Field<'a>
-        ensures { result ≡ FieldValue.Signed word }
+    pub(crate) fn signed(word: Word) -> Field<'a>
+        ensures { result ≡ signed word }
     {
         Field {
-            kind: Kind::Signed(word),
+            kind: Kind::Number(word.sign(), word.magnitude() as u128),
         }
     }
 
-    pub(crate) const fn text(text: &'a [u8]) -> Field<'a>
+    pub(crate) fn whole(number: i64) -> Field<'a>
+        ensures { result ≡ whole number }
+    {
+        Field {
+            kind: Kind::Number(sign_of(number), number.unsigned_abs() as u128),
+        }
+    }
+
+    pub(crate) const fn text(text: &'a str) -> Field<'a>
         ensures { result ≡ FieldValue.Text text.entry.now }
     {
         Field {
@@ -66,95 +69,41 @@ impl<'a> Field<'a> {
             kind: Kind::Missing,
         }
     }
-}
 
-/// Appends the name of a column before its field, in JSON.
-pub(super) fn add_name(
-    alloc: Global,
-    text: &mut Vec<u8>,
-    format: TableFormat,
-    name: &Field<'_>,
-) -> Result<(), Memory>
-    ensures { OnOk result (text.new.items ≡ text.old.items ++ name_text format name.now) }
-{
-    match format {
-        TableFormat::Csv | TableFormat::Latex => Ok(()),
-        TableFormat::Json => {
-            add_field(alloc, text, format, name)?;
-            text.extend_from_slice(b":")?;
-            Ok(())
+    /// What CSV has of it, but for quotes.
+    pub(super) fn plain(&self, alloc: Global) -> Result<String, AllocError>
+        ensures { IfOk result (λ text. string_bytes text ≡ plain_text self.now) }
+    {
+        match self.kind {
+            Kind::Number(sign, magnitude) => digits(alloc, sign, magnitude),
+            Kind::Text(text) => Ok(format!(in alloc; "{text}")?),
+            Kind::Missing => Ok(String::new(alloc)),
+        }
+    }
+
+    /// The name that a column has: a text.
+    pub(super) fn name(&self) -> &str
+        ensures { result.now ≡ name_of self.now }
+    {
+        match self.kind {
+            Kind::Text(text) => text,
+            Kind::Number(_, _) | Kind::Missing => "",
         }
     }
 }
 
-/// Appends a field.
-pub(super) fn add_field(
-    alloc: Global,
-    text: &mut Vec<u8>,
-    format: TableFormat,
-    field: &Field<'_>,
-) -> Result<(), Memory>
-    ensures { OnOk result (text.new.items ≡ text.old.items ++ field_text format field.now) }
+/// The digits of a number, behind a minus if it has one.
+pub(super) fn digits(alloc: Global, sign: Sign, magnitude: u128) -> Result<String, AllocError>
+    ensures { IfOk result (λ digits. string_bytes digits ≡ signed_text sign magnitude) }
 {
-    match &field.kind {
-        Kind::Number(number) => add_number(alloc, text, *number),
-        Kind::Signed(word) => add_signed(alloc, text, format, *word),
-        Kind::Text(bytes) => add_text(text, format, bytes),
-        Kind::Missing => {
-            text.extend_from_slice(missing(format))?;
-            Ok(())
-        }
+    match sign {
+        Sign::Plus => Ok(format!(in alloc; "{magnitude}")?),
+        Sign::Minus => Ok(format!(in alloc; "-{magnitude}")?),
     }
 }
 
-fn missing(format: TableFormat) -> &'static [u8]
-    ensures { result.now ≡ missing_text format }
+fn sign_of(number: i64) -> Sign
+    ensures { result ≡ sign_of number }
 {
-    match format {
-        TableFormat::Csv | TableFormat::Latex => b"",
-        TableFormat::Json => b"null",
-    }
-}
-
-fn add_number(alloc: Global, text: &mut Vec<u8>, number: u128) -> Result<(), Memory>
-    ensures { OnOk result (text.new.items ≡ text.old.items ++ decimal number) }
-{
-    let digits = format!(in alloc; "{number}")?;
-    text.extend_from_slice(digits.as_bytes())?;
-    Ok(())
-}
-
-// The number of a word, with a minus if it has one.
-#[tactic(auto, unfolding(crate::specs::Table::signed_field))]
-fn add_signed(
-    alloc: Global,
-    text: &mut Vec<u8>,
-    format: TableFormat,
-    word: Word,
-) -> Result<(), Memory>
-    ensures { OnOk result (text.new.items ≡ text.old.items ++ signed_field format word) }
-{
-    text.extend_from_slice(before_digits(format, word.sign()))?;
-    add_number(alloc, text, u128::from(word.magnitude()))?;
-    text.extend_from_slice(after_digits(format, word.sign()))?;
-    Ok(())
-}
-
-fn before_digits(format: TableFormat, sign: Sign) -> &'static [u8]
-    ensures { result.now ≡ before_digits format sign }
-{
-    match (sign, format) {
-        (Sign::Plus, _) => b"",
-        (Sign::Minus, TableFormat::Csv | TableFormat::Json) => b"-",
-        (Sign::Minus, TableFormat::Latex) => b"$-",
-    }
-}
-
-fn after_digits(format: TableFormat, sign: Sign) -> &'static [u8]
-    ensures { result.now ≡ after_digits format sign }
-{
-    match (sign, format) {
-        (Sign::Minus, TableFormat::Latex) => b"$",
-        (Sign::Minus, TableFormat::Csv | TableFormat::Json) | (Sign::Plus, _) => b"",
-    }
+    if number < 0 { Sign::Minus } else { Sign::Plus }
 }

@@ -87,7 +87,7 @@ fn traced(
         None => {}
         Some(fault) => return Ok(Some(fault)),
     }
-    let instruction = instruction.as_bytes();
+    let instruction = instruction.as_str();
     let fields = trace_row(sheet.program, rows.number, loc, instruction, world);
     sheet.add(alloc, rows.first, &fields, text)?;
     rows.first = false;
@@ -129,7 +129,7 @@ fn trace_row<'a>(
     program: &Program,
     number: u64,
     loc: u16,
-    instruction: &'a [u8],
+    instruction: &'a str,
     world: &World,
 ) -> [Field<'a>; 16]
     ensures { result ≡ trace_row program.now number loc instruction.entry.now world.now }
@@ -193,18 +193,18 @@ fn mark_field(mark: &Mark) -> Field<'static>
     }
 }
 
-fn toggle_name(over: bool) -> &'static [u8]
+fn toggle_name(over: bool) -> &'static str
     ensures { result.now ≡ toggle_name over }
 {
-    if over { b"on" } else { b"off" }
+    if over { "on" } else { "off" }
 }
 
-fn indicator_name(cmp: Cmp) -> &'static [u8]
+fn indicator_name(cmp: Cmp) -> &'static str
     ensures { result.now ≡ indicator_name cmp }
 {
     match cmp {
-        Cmp::Less => b"L",
-        Cmp::Equal => b"E",
-        Cmp::Greater => b"G",
+        Cmp::Less => "L",
+        Cmp::Equal => "E",
+        Cmp::Greater => "G",
     }
 }

@@ -33,9 +33,9 @@ returns-in-Err-units_of_run-clause-output g c given holds =
 
 pub returns-clause-output : goal.returns-clause-output
 returns-clause-output g c given holds =
-    let part = c.as_bytes-part.ensures.value ∙ c.part_of.ensures in
-    let outcome = outcome_of_run c.options_of-options.result c.as_bytes-part.result.now c.in-Ok-assemble.program c.in-Ok-units_of_run.units in
-    let drawn = DrawnRun c.options_of-options.result c.as_bytes-part.result.now c.in-Ok-assemble.program c.in-Ok-units_of_run.units in
+    let part = c.as_bytes-subject.ensures.value ∙ c.subject_of.ensures in
+    let outcome = outcome_of_run c.options_of-options.result c.as_bytes-subject.result.now c.in-Ok-assemble.program c.in-Ok-units_of_run.units in
+    let drawn = DrawnRun c.options_of-options.result c.as_bytes-subject.result.now c.in-Ok-assemble.program c.in-Ok-units_of_run.units in
     let prints = leaves-prints outcome drawn c.run_printed-printed.result _ _ _ _ c.run_printed-printed.ensures in
     subst (λ r. Prints (run_output c.args.plan.now given) r (g.W.Out.told c.args.streams.now.out) (g.W.Out.told c.run_printed-printed.new.out))
     (sym c.of_file-in-Ok-assemble.ensures.answer) (prints-made c.args.plan.now given _ _ _ c.in-Ok-assemble.program c.in-Ok-units_of_run.units c.run_printed-printed.result _ _
@@ -45,9 +45,9 @@ returns-clause-output g c given holds =
 
 pub returns-clause-map : goal.returns-clause-map
 returns-clause-map g c given holds =
-    let part = c.as_bytes-part.ensures.value ∙ c.part_of.ensures in
-    let outcome = outcome_of_run c.options_of-options.result c.as_bytes-part.result.now c.in-Ok-assemble.program c.in-Ok-units_of_run.units in
-    let drawn = DrawnRun c.options_of-options.result c.as_bytes-part.result.now c.in-Ok-assemble.program c.in-Ok-units_of_run.units in
+    let part = c.as_bytes-subject.ensures.value ∙ c.subject_of.ensures in
+    let outcome = outcome_of_run c.options_of-options.result c.as_bytes-subject.result.now c.in-Ok-assemble.program c.in-Ok-units_of_run.units in
+    let drawn = DrawnRun c.options_of-options.result c.as_bytes-subject.result.now c.in-Ok-assemble.program c.in-Ok-units_of_run.units in
     let map = leaves-map outcome drawn c.run_printed-printed.result _ _ _ _ c.run_printed-printed.ensures in
     subst (λ r. IfOk r (λ p. run_draws c.args.plan.now given p.map.items))
     (sym c.of_file-in-Ok-assemble.ensures.answer) (draws-made c.args.plan.now given _ _ _ c.in-Ok-assemble.program c.in-Ok-units_of_run.units c.run_printed-printed.result

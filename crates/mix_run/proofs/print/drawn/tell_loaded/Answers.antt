@@ -1,7 +1,7 @@
 -- The session is that of the program, and a part that is none ends the run before it begins.
 use Rattle.std.proofs.Common.{◌∙◌, refl, sym}
 use Rattle.std.proofs.lemmas.Result.{err_from_is_err_and}
-use Rattle.mix_run.specs.declared.print.PrintAnswer.TheVariants.{NoPart}
+use Rattle.mix_run.specs.declared.print.PrintAnswer.TheVariants.{NoTable}
 use Rattle.mix_run.proofs.DrawnLemmas.{leaves-none, leaves-opened}
 use Rattle.mix_run.proofs.WritesLemmas.{begun-none}
 use Rattle.mix_run.proofs.print.drawn.tell_loaded.Goals as goal
@@ -17,7 +17,7 @@ returns-in_err-cell g c =
 pub returns-in-Err : goal.returns-in-Err
 returns-in-Err g c =
     leaves-none c.args.options c.args.part.now c.args.program c.args.units c.in_ok-session.session c.in-Err.refusal
-    (record { answer = NoPart c.in-Err.refusal; deck = c.new.result; map = c.new-in-Err.result }) _ _ c.in_ok-session.ensures
+    (record { answer = NoTable c.in-Err.refusal; deck = c.new.result; map = c.new-in-Err.result }) _ _ c.in_ok-session.ensures
     (sym c.step_table.ensures ∙ c.in-Err.is) refl c.new.ensures.items c.new-in-Err.ensures.items
 
 pub returns : goal.returns

@@ -7,4 +7,4 @@ pub returns-clause-rows : goal.returns-clause-rows
 returns-clause-rows c =
     traced-row c.args.sheet.now.format c.args.sheet.now.names.now c.args.rows.now.first c.args.sheet.now.program.now c.args.rows.now.number
     c.args.world.now c.quiet_step.new.world _ _ _ _ (rw c.in-None.is at c.in_ok-quiet_step.ensures) c.loc-loc.ensures.is
-    (c.as_bytes-instruction.ensures.value ∙ c.in_ok-instruction.ensures) (rw c.trace_row-fields.ensures at c.in_ok-add.ensures)
+    (c.as_str-instruction.ensures.value ∙ c.in_ok-instruction.ensures) (rw c.trace_row-fields.ensures at c.in_ok-add.ensures)
