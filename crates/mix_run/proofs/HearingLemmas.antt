@@ -23,7 +23,7 @@ use Rattle.mix_run.specs.Reload.{moment_of, reloaded}
 use Rattle.mix_run.specs.Saves.{saves, saves_of}
 use Rattle.mix_run.specs.Sources.{Knows, is_reload, is_source, reads_file, sources_by, stands_by, stands_for}
 use Rattle.mix_run.specs.Stretch.{in_session, joined, silent, talk_of, typed_line}
-use Rattle.mix_run.specs.Talk.{AnswersRead, Talks, is_too_long, is_whole, max_line_bytes}
+use Rattle.mix_run.specs.Talk.{AnswersRead, TalksTo, is_too_long, is_whole, max_line_bytes}
 use Rattle.mix_run.specs.declared.fault.ToolFault.{ToolFault}
 use Rattle.mix_run.specs.declared.fault.ToolFault.TheVariants as faults
 use Rattle.mix_person.specs.Person.{kind_of}
@@ -34,7 +34,8 @@ use Rattle.mix_run.specs.declared.talk.aside.Talker.{Talker}
 use Rattle.mix_run.specs.declared.talk.moment.Moment.{Moment}
 use Rattle.mix_run.specs.declared.talk.aside.Talker.TheVariants as talkers
 use Rattle.mix_run.proofs.StretchLemmas.{Answered-as, Answered-begun, Answered-nothing, Answered-over, Answered-then, joined-end, talk-append, talk-one, then-more}
-use Rattle.mix_run.proofs.TalkLemmas.{lines-append, long-first, or-true, parts-clear, quit-recalled, quit-said, quit-saves, whole-append}
+use Rattle.std.proofs.lemmas.Bool.{or_parts, or_right}
+use Rattle.mix_run.proofs.TalkLemmas.{lines-append, long-first, quit-recalled, quit-said, quit-saves, whole-append}
 use Rattle.mix_run.proofs.Written.{Appends-nothing, Appends-same}
 
 -- ---- what is known of lines
@@ -44,7 +45,7 @@ pub Knows-parts : (held : Option Files) (all : Files) (talker : Talker) (xs ys :
     → Knows held all talker xs × Knows held all talker ys
 Knows-parts held all talker xs ys (inl is) = (inl is, inl is)
 Knows-parts held all talker xs ys (inr none) =
-    let both = parts-clear _ _ (sym (list_any-append (reads_file talker) xs ys) ∙ none) in (inr both.0, inr both.1)
+    let both = or_parts _ _ (sym (list_any-append (reads_file talker) xs ys) ∙ none) in (inr both.0, inr both.1)
 
 pub Knows-same : (held old : Option Files) (all : Files) (talker : Talker) (xs ys : List (List ℕ)) → held ≡ old → xs ≡ ys → Knows old all talker xs
     → Knows held all talker ys
@@ -83,7 +84,7 @@ known-of held all talker line reads (inr none) = absurd (true≢false (sym reads
 pub sourced-known : (held : Option Files) (all : Files) (talker : Talker) (line : List ℕ) → is_source talker line ≡ true → Knows held all talker (line ∷ [])
     → held ≡ Some all
 sourced-known held all talker line sources known =
-    known-of held all talker line (ap (λ v. is_reload talker line || v) sources ∙ or-true (is_reload talker line)) known
+    known-of held all talker line (ap (λ v. is_reload talker line || v) sources ∙ or_right (is_reload talker line) true refl) known
 
 pub reloaded-known : (held : Option Files) (all : Files) (talker : Talker) (line : List ℕ) → is_reload talker line ≡ true → Knows held all talker (line ∷ [])
     → held ≡ Some all
@@ -93,51 +94,50 @@ reloaded-known held all talker line reloads known = known-of held all talker lin
 same-moment : (m now : Moment) → now.session ≡ m.session → now.recall ≡ m.recall → now.origin ≡ m.origin → now ≡ m
 same-moment m now session recall origin = ap₂ (λ x y. moment_of x y now.origin) session recall ∙ ap (moment_of m.session m.recall) origin
 
-module _ {d f : Option (List Saved)} (m now : Moment) (talker : Talker) (line : List ℕ) (a b : Option (List ℕ))
-    (session : now.session ≡ after_lines m.session (meant m.session talker m.recall line)) (recall : now.recall ≡ recalled m.session talker m.recall line)
-    (origin : now.origin ≡ m.origin) (written : Appends a b (replies m.session (meant m.session talker m.recall line)).bytes)
-    (saved : f ≡ noted d (saves_of m.origin talker m.recall line)) where
-  pub Answered-one : (told : Told) → is_quit talker line ≡ false → told ≡ (replies m.session (meant m.session talker m.recall line)).told
-      → Answered (in_session m talker (line ∷ [])) now told false d f a b
-  Answered-one told quit is =
-      let all : asked m.session talker m.recall (line ∷ []) ≡ meant m.session talker m.recall line = rw quit (append-nil (meant m.session talker m.recall line)) in
-      let later : recalled_all m.session talker m.recall (line ∷ []) ≡ recalled m.session talker m.recall line = rw quit refl in
-      let still : is_over talker (line ∷ []) ≡ false = rw quit refl in
-      let files : saves m.origin m.session talker m.recall (line ∷ []) ≡ saves_of m.origin talker m.recall line = rw quit (append-nil (saves_of m.origin talker m.recall line)) in
-      record {
-        moment = same-moment _ now (session ∙ ap (after_lines m.session) (sym all)) (recall ∙ sym later) origin;
-        told = is ∙ ap (λ l. (replies m.session l).told) (sym all);
-        over = sym still;
-        written = Appends-same a b _ _ (ap (λ l. (replies m.session l).bytes) (sym all)) written;
-        saved = saved ∙ ap (noted d) (sym files);
-      }
+-- a line that stands for itself: what it asks for, what is recalled then, and what it saves
+module _ (s : SessionState) (talker : Talker) (r : RecallState) (line : List ℕ) where
+  asked-line : asked s talker r (line ∷ []) ≡ meant s talker r line
+  asked-line = go (is_quit talker line) refl
+    where
+      go : (v : Bool) → is_quit talker line ≡ v → asked s talker r (line ∷ []) ≡ meant s talker r line
+      go true quit = rw quit (sym (quit-said s talker r line quit))
+      go false quit = rw quit (append-nil (meant s talker r line))
 
-  pub Answered-quit : is_quit talker line ≡ true → Answered (in_session m talker (line ∷ [])) now Accepted true d f a b
-  Answered-quit quit =
-      let none : asked m.session talker m.recall (line ∷ []) ≡ [] = rw quit refl in
-      let later : recalled_all m.session talker m.recall (line ∷ []) ≡ m.recall = rw quit refl in
-      let ended : is_over talker (line ∷ []) ≡ true = rw quit refl in
-      let files : saves m.origin m.session talker m.recall (line ∷ []) ≡ [] = rw quit refl in
-      let said = quit-said m.session talker m.recall line quit in
-      record {
-        moment = same-moment _ now (session ∙ ap (after_lines m.session) (said ∙ sym none)) (recall ∙ quit-recalled m.session talker m.recall line quit ∙ sym later) origin;
-        told = ap (λ l. (replies m.session l).told) (sym none);
-        over = sym ended;
-        written = Appends-same a b _ _ (ap (λ l. (replies m.session l).bytes) (said ∙ sym none)) written;
-        saved = saved ∙ ap (noted d) (quit-saves m.origin talker m.recall line quit ∙ sym files);
-      }
+  recalled-line : recalled_all s talker r (line ∷ []) ≡ recalled s talker r line
+  recalled-line = go (is_quit talker line) refl
+    where
+      go : (v : Bool) → is_quit talker line ≡ v → recalled_all s talker r (line ∷ []) ≡ recalled s talker r line
+      go true quit = rw quit (sym (quit-recalled s talker r line quit))
+      go false quit = rw quit refl
 
--- what a line that stands for itself asks for
-asked-line : (s : SessionState) (talker : Talker) (r : RecallState) (line : List ℕ) → asked s talker r (line ∷ []) ≡ meant s talker r line
-asked-line s talker r line = go (is_quit talker line) refl
-  where
-    go : (v : Bool) → is_quit talker line ≡ v → asked s talker r (line ∷ []) ≡ meant s talker r line
-    go true quit = rw quit (sym (quit-said s talker r line quit))
-    go false quit = rw quit (append-nil (meant s talker r line))
+  saves-line : (o : OriginValue) → saves o s talker r (line ∷ []) ≡ saves_of o talker r line
+  saves-line o = go (is_quit talker line) refl
+    where
+      go : (v : Bool) → is_quit talker line ≡ v → saves o s talker r (line ∷ []) ≡ saves_of o talker r line
+      go true quit = rw quit (sym (quit-saves o talker r line quit))
+      go false quit = rw quit (append-nil (saves_of o talker r line))
 
-pub begun-itself : (s : SessionState) (talker : Talker) (r : RecallState) (line : List ℕ) (a b : Option (List ℕ))
-    → AppendsFront a b (replies s (meant s talker r line)).bytes → AppendsFront a b (answers s talker r (line ∷ [])).bytes
-begun-itself s talker r line a b begun = subst (λ l. AppendsFront a b (replies s l).bytes) (sym (asked-line s talker r line)) begun
+  pub begun-itself : (a b : Option (List ℕ)) → AppendsFront a b (replies s (meant s talker r line)).bytes → AppendsFront a b (answers s talker r (line ∷ [])).bytes
+  begun-itself a b begun = subst (λ l. AppendsFront a b (replies s l).bytes) (sym asked-line) begun
+
+pub answered-itself : (d f : Option (List Saved)) (a b : Option (List ℕ)) (m now : Moment) (talker : Talker) (line : List ℕ) (result : Result Heard ToolFault)
+    → IfOk result (λ h. h.told ≡ (replies m.session (meant m.session talker m.recall line)).told)
+    → OnOk result (Appends a b (replies m.session (meant m.session talker m.recall line)).bytes)
+    → IfOk result (λ h. h.is_over ≡ is_quit talker line)
+    → OnOk result (now.session ≡ after_lines m.session (meant m.session talker m.recall line))
+    → OnOk result (now.recall ≡ recalled m.session talker m.recall line) → now.origin ≡ m.origin
+    → OnOk result (f ≡ noted d (saves_of m.origin talker m.recall line))
+    → IfOk result (λ h. Answered (in_session m talker (line ∷ [])) now h.told h.is_over d f a b)
+answered-itself d f a b m now talker line (Ok h) told written over session recall origin saved =
+    let asks = sym (asked-line m.session talker m.recall line) in
+    record {
+      moment = same-moment _ now (session ∙ ap (after_lines m.session) asks) (recall ∙ sym (recalled-line m.session talker m.recall line)) origin;
+      told = told ∙ ap (λ l. (replies m.session l).told) asks;
+      over = over ∙ sym (or-false (is_quit talker line));
+      written = Appends-same a b _ _ (ap (λ l. (replies m.session l).bytes) asks) written;
+      saved = saved ∙ ap (noted d) (sym (saves-line m.session talker m.recall line m.origin));
+    }
+answered-itself d f a b m now talker line (Err fault) told written over session recall origin saved = tt
 
 -- a line that does not reload: the lines that it stands for are heard
 pub typed-as : (all : Files) (m : Moment) (talker : Talker) (line : List ℕ) (xs : List (List ℕ)) → is_reload talker line ≡ false
@@ -291,9 +291,9 @@ Hears-on m now talker bytes left told said ends a b h on is = record {
 -- ---- the text of the whole talk
 
 pub Talks-begun : (all : Files) (m : Moment) (talker : Talker) (t : List ℕ) (fault : ToolFault) (left old new : Option (List ℕ)) → IsMemoryOrWrite fault
-    → AppendsFront old new (talk_of all m talker (lines t)).bytes → Talks all m talker t (Err fault) left old new
-Talks-begun all m talker t faults.Memory left old new only begun = begun
-Talks-begun all m talker t faults.Write left old new only begun = begun
+    → AppendsFront old new (talk_of all m talker (lines t)).bytes → TalksTo all m talker t (Err fault) left old new
+Talks-begun all m talker t faults.Memory left old new only begun = (Err faults.Memory, refl, begun)
+Talks-begun all m talker t faults.Write left old new only begun = (Err faults.Write, refl, begun)
 Talks-begun all m talker t faults.Read left old new only begun = absurd only
 Talks-begun all m talker t (faults.Deck fault) left old new only begun = absurd only
 Talks-begun all m talker t faults.Long left old new only begun = absurd only
@@ -312,7 +312,7 @@ module _ {held : Option Files} {d f : Option (List Saved)} (m now : Moment) (tal
   too-long over t rest e =
       ap (list_any is_too_long) (two-lines t h.front (left ++ rest) (text-parts t rest e) h.whole)
       ∙ list_any-append is_too_long (lines h.front) (lines (left ++ rest))
-      ∙ ap (λ v. list_any is_too_long (lines h.front) || v) (long-first left rest h.part over) ∙ or-true (list_any is_too_long (lines h.front))
+      ∙ ap (λ v. list_any is_too_long (lines h.front) || v) (long-first left rest h.part over) ∙ or_right (list_any is_too_long (lines h.front)) true refl
 
   -- and the text has more bytes than a line may have
   pub long-text : max_line_bytes + 2 < length left → (t rest : List ℕ) → t ≡ bytes ++ rest → max_line_bytes < length t
@@ -338,8 +338,14 @@ module _ {held : Option Files} {d f : Option (List Saved)} (m now : Moment) (tal
         Answered-as told told ends ends whole-talk refl refl (Answered-over (talk_of all now talker (lines (left ++ rest))) told ends over answered-front)
 
     -- no more is read
-    pub unread : (new : Option (List ℕ)) → new ≡ Some rest → AnswersRead all m talker t new a b
+    unread : (new : Option (List ℕ)) → new ≡ Some rest → AnswersRead all m talker t new a b
     unread new is = (h.front, left, rest, is, text-parts t rest e, h.whole, h.part, answered-front.written)
+
+    pub unread-failed : (new : Option (List ℕ)) → new ≡ Some rest → TalksTo all m talker t (Err faults.Read) new a b
+    unread-failed new is = (Err faults.Read, refl, unread new is)
+
+    pub unread-long : (new : Option (List ℕ)) → new ≡ Some rest → TalksTo all m talker t (Err faults.Long) new a b
+    unread-long new is = (Err faults.Long, refl, unread new is)
 
 -- the last line, which has no line feed, at the end of the text; and whole lines of which the answers are begun
 module _ {held later_held : Option Files} {d e : Option (List Saved)} (m mid : Moment) (talker : Talker)

@@ -31,11 +31,7 @@ pub added-more : (text new said left more whole : List ℕ) → text ++ left ≡
 added-more text new said left more whole so_far parts added =
     ap (λ t. t ++ more) added ∙ append_assoc text said more ∙ ap (λ t. text ++ t) (sym parts) ∙ so_far
 
--- a text that is only added if that is asked for
-pub added-if : (b : Bool) (text more new : List ℕ) → b ≡ true → new ≡ text ++ more → new ≡ text ++ (if b then more else [])
-added-if true text more new e h = h
-added-if false text more new e h = absurd (true≢false (sym e))
-
+-- a text that is only added if that is asked for, and is not
 pub added-not : (b : Bool) (text more : List ℕ) → b ≡ false → text ≡ text ++ (if b then more else [])
 added-not true text more e = absurd (true≢false e)
 added-not false text more e = sym (append-nil text)

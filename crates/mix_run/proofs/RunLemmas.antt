@@ -2,7 +2,8 @@
 use Rattle.std.proofs.Common.{◌≡◌, ℕ, Bool, List, [], ◌∷◌, ◌++◌, true, false, Option, None, Some, Result, Ok, Err, ◌-◌, ◌<◌, ◌≤◌, refl, sym, ap, ◌∙◌, append_assoc, length, eqb, take, arith}
 use Rattle.std.proofs.lemmas.Bool.{eqb-true, lt-ltb, le-ltb}
 use Rattle.std.proofs.lemmas.List.{append-nil}
-use Rattle.std.specs.Io.KnownBytes.{Appends, Keeps}
+pub use Rattle.std.proofs.KnownBytes.{Keeps-refl as Keeps-same}
+use Rattle.std.specs.Io.KnownBytes.{Appends}
 use Rattle.mix_session.specs.Session.{SessionState, opened, effect_in}
 use Rattle.mix_session.specs.Command.{after}
 use Rattle.mix_session.specs.Answer.{told_of}
@@ -106,10 +107,6 @@ pub ConsumesAtMost-none : (rest : Option (List ℕ)) (most : ℕ) → ConsumesAt
 ConsumesAtMost-none None most = tt
 ConsumesAtMost-none (Some known) most =
     let none : length known - length known ≡ 0 = omega arith in (rw none refl, omega arith)
-
-pub Keeps-same : (told : Option (List ℕ)) → Keeps told told
-Keeps-same None = tt
-Keeps-same (Some bytes) = refl
 
 -- nothing was written, and memory was refused or a read failed
 pub Meets-unread : (outcome : Outcome) (fault : Refusal Failed) (told : Option (List ℕ)) → Meets outcome (Err (fault_of_read fault)) told told

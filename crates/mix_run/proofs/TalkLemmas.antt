@@ -1,13 +1,13 @@
 -- The lines of a talk, which come in parts: what is said of the parts holds of the whole.
-use Rattle.std.proofs.Common.{◌≡◌, ◌∙◌, ◌<◌, ◌≤◌, ◌+◌, ◌-◌, ◌||◌, ℕ, zero, suc, Bool, true, false, cond, List, [], ◌∷◌, ◌++◌, append_assoc, length, map, take, get_or, slice_index, Option, None, Some, refl, sym, ap, ap₂, subst, arith, true≢false, eqb}
+use Rattle.std.proofs.Common.{◌≡◌, ◌∙◌, ◌<◌, ◌≤◌, ◌+◌, ◌-◌, ◌||◌, ℕ, Bool, true, false, cond, List, [], ◌∷◌, ◌++◌, append_assoc, length, map, take, get_or, slice_index, Option, None, Some, refl, sym, ap, ap₂, subst, arith, true≢false, eqb}
 use Rattle.std.proofs.KnownBytes.{Consumes-trans}
-use Rattle.std.proofs.lemmas.List.{append-nil, length-append, map-append, take_more}
+use Rattle.std.proofs.lemmas.List.{append-nil, length-append, length-take-le, map-append, take_more}
 use Rattle.std.proofs.lemmas.List.Folds.{list_any-append}
 use Rattle.std.specs.List.{list_any, onto_first}
 use Rattle.std.specs.Io.KnownBytes.{Appends, Consumes, IsAtEnd, Keeps}
 use Rattle.mix_lines.specs.Lines.{is_line_feed, lines, lines-nil, strip_line_feed, text_of_line, whole_lines, words}
 use Rattle.std.specs.Str.Lines.{strip_carriage_return}
-use Rattle.std.proofs.lemmas.Bool.{lt-ltb}
+use Rattle.std.proofs.lemmas.Bool.{lt-ltb, or_parts}
 use Rattle.mix_session.specs.Session.{SessionState, effect_in}
 use Rattle.mix_session.specs.Command.{after, reply_of}
 use Rattle.mix_session.specs.Answer.{told_of}
@@ -64,10 +64,6 @@ lines-append front rest whole =
 
 -- ---- lines that are too long
 
-pub parts-clear : (a b : Bool) → (a || b) ≡ false → (a ≡ false) × (b ≡ false)
-parts-clear true b h = absurd (true≢false h)
-parts-clear false b h = (refl, h)
-
 step-first : (byte : ℕ) (v : Bool) (ls : List (List ℕ)) (line : List ℕ) (more : List (List ℕ)) → v ≡ false → ls ≡ line ∷ more
     → cond v ((byte ∷ []) ∷ ls) (onto_first byte ls) ≡ (byte ∷ line) ∷ more
 step-first byte true ls line more h e = absurd (true≢false h)
@@ -77,7 +73,7 @@ step-first byte false ls line more h e = ap (onto_first byte) e
 first-line : (part rest : List ℕ) → list_any is_line_feed part ≡ false → 0 < length part
     → (line : List ℕ) × (more : List (List ℕ)) × (whole_lines (part ++ rest) ≡ line ∷ more) × (length part ≤ length line)
 first-line [] rest clear some = absurd (omega arith)
-first-line (byte ∷ []) rest clear some = go (is_line_feed byte) (whole_lines rest) (parts-clear (is_line_feed byte) false clear).0
+first-line (byte ∷ []) rest clear some = go (is_line_feed byte) (whole_lines rest) (or_parts (is_line_feed byte) false clear).0
   where
     go : (v : Bool) (ls : List (List ℕ)) → v ≡ false
         → (line : List ℕ) × (more : List (List ℕ)) × (cond v ((byte ∷ []) ∷ ls) (onto_first byte ls) ≡ line ∷ more) × (1 ≤ length line)
@@ -85,7 +81,7 @@ first-line (byte ∷ []) rest clear some = go (is_line_feed byte) (whole_lines r
     go false [] h = (byte ∷ [], [], refl, omega arith)
     go false (line ∷ ls) h = (byte ∷ line, ls, refl, omega arith)
 first-line (byte ∷ next ∷ part) rest clear some =
-    let clears = parts-clear (is_line_feed byte) (list_any is_line_feed (next ∷ part)) clear in
+    let clears = or_parts (is_line_feed byte) (list_any is_line_feed (next ∷ part)) clear in
     let later = first-line (next ∷ part) rest clears.1 (omega arith) in (
       byte ∷ later.0,
       later.1,
@@ -93,13 +89,8 @@ first-line (byte ∷ next ∷ part) rest clear some =
       (let longer = later.3 in omega (arith, longer)),
     )
 
-length-front : (n : ℕ) (xs : List ℕ) → n ≤ length xs → length (take n xs) ≡ n
-length-front zero xs le = refl
-length-front (suc n) [] le = absurd (omega arith)
-length-front (suc n) (x ∷ xs) le = ap suc (length-front n xs (omega arith))
-
 one-less : (v : Bool) (line : List ℕ) → length line ≤ length (cond v (take (length line - 1) line) line) + 1
-one-less true line = let same = length-front (length line - 1) line (omega arith) in omega (arith, same)
+one-less true line = let same = length-take-le (length line - 1) line (omega arith) in omega (arith, same)
 one-less false line = omega arith
 
 -- the end of a line has two bytes at most
@@ -109,10 +100,6 @@ end-of-two line =
     let feed : length line ≤ length bare + 1 = one-less (is_line_feed (slice_index line (length line - 1))) line in
     let return : length bare ≤ length (strip_carriage_return bare) + 1 = one-less (eqb (get_or bare (length bare - 1) 0) 13) bare in
     omega (arith, feed, return)
-
-pub or-true : (v : Bool) → (v || true) ≡ true
-or-true true = refl
-or-true false = refl
 
 any-first : (line : List ℕ) (more : List (List ℕ)) → max_line_bytes < length line → list_any is_too_long (line ∷ more) ≡ true
 any-first line more over = rw (lt-ltb max_line_bytes (length line) over) refl
@@ -179,63 +166,32 @@ noted-then so_far (file ∷ files) ys = noted-then (noted_one so_far file) files
 
 -- ---- one line of a text
 
-pub not_so : (v : Bool) → (v ≡ true → ⊥) → v ≡ false
-not_so true h = absurd (h refl)
-not_so false h = refl
+-- a line that ends the talk is of this kind
+end-kind : (kind : Line) → is_end kind ≡ true → kind ≡ line_kind.Quit
+end-kind line_kind.Quit e = refl
+end-kind line_kind.Command e = absurd (true≢false (sym e))
+end-kind line_kind.Help e = absurd (true≢false (sym e))
+end-kind line_kind.Listing e = absurd (true≢false (sym e))
+end-kind line_kind.Watch e = absurd (true≢false (sym e))
+end-kind line_kind.Delete e = absurd (true≢false (sym e))
+end-kind line_kind.Display e = absurd (true≢false (sym e))
+end-kind line_kind.Undisplay e = absurd (true≢false (sym e))
+end-kind line_kind.Save e = absurd (true≢false (sym e))
+end-kind line_kind.Source e = absurd (true≢false (sym e))
+end-kind line_kind.Reload e = absurd (true≢false (sym e))
 
--- a line that ends the talk stands for no line of a script
-quit-meant : (s : SessionState) (points : List ℕ) (kind : Line) (typed : List ℕ) → is_end kind ≡ true → meant_by s points kind typed ≡ []
-quit-meant s points line_kind.Quit typed e = refl
-quit-meant s points line_kind.Command typed e = absurd (true≢false (sym e))
-quit-meant s points line_kind.Help typed e = absurd (true≢false (sym e))
-quit-meant s points line_kind.Listing typed e = absurd (true≢false (sym e))
-quit-meant s points line_kind.Watch typed e = absurd (true≢false (sym e))
-quit-meant s points line_kind.Delete typed e = absurd (true≢false (sym e))
-quit-meant s points line_kind.Display typed e = absurd (true≢false (sym e))
-quit-meant s points line_kind.Undisplay typed e = absurd (true≢false (sym e))
-quit-meant s points line_kind.Save typed e = absurd (true≢false (sym e))
-quit-meant s points line_kind.Source typed e = absurd (true≢false (sym e))
-quit-meant s points line_kind.Reload typed e = absurd (true≢false (sym e))
-
+-- it stands for no line of a script, nor is anything recalled of it, nor does it save anything
 pub quit-said : (s : SessionState) (talker : Talker) (r : RecallState) (line : List ℕ) → is_quit talker line ≡ true → meant s talker r line ≡ []
 quit-said s talkers.Program r line e = absurd (true≢false (sym e))
-quit-said s talkers.Person r line e = quit-meant s r.points (kind_of (words line)) (read_as s r line) e
-
--- nor does it save anything
-quit-unsaved : (kind : Line) (bundle : List ℕ) (said : List (List ℕ)) → is_end kind ≡ true → saves_by kind bundle said ≡ []
-quit-unsaved line_kind.Quit bundle said e = refl
-quit-unsaved line_kind.Command bundle said e = absurd (true≢false (sym e))
-quit-unsaved line_kind.Help bundle said e = absurd (true≢false (sym e))
-quit-unsaved line_kind.Listing bundle said e = absurd (true≢false (sym e))
-quit-unsaved line_kind.Watch bundle said e = absurd (true≢false (sym e))
-quit-unsaved line_kind.Delete bundle said e = absurd (true≢false (sym e))
-quit-unsaved line_kind.Display bundle said e = absurd (true≢false (sym e))
-quit-unsaved line_kind.Undisplay bundle said e = absurd (true≢false (sym e))
-quit-unsaved line_kind.Save bundle said e = absurd (true≢false (sym e))
-quit-unsaved line_kind.Source bundle said e = absurd (true≢false (sym e))
-quit-unsaved line_kind.Reload bundle said e = absurd (true≢false (sym e))
-
--- nor is anything recalled of it
-quit-unrecalled : (s : SessionState) (kind : Line) (typed : List ℕ) (r : RecallState) → is_end kind ≡ true → recalled_by s kind typed r ≡ r
-quit-unrecalled s line_kind.Quit typed r e = refl
-quit-unrecalled s line_kind.Command typed r e = absurd (true≢false (sym e))
-quit-unrecalled s line_kind.Help typed r e = absurd (true≢false (sym e))
-quit-unrecalled s line_kind.Listing typed r e = absurd (true≢false (sym e))
-quit-unrecalled s line_kind.Watch typed r e = absurd (true≢false (sym e))
-quit-unrecalled s line_kind.Delete typed r e = absurd (true≢false (sym e))
-quit-unrecalled s line_kind.Display typed r e = absurd (true≢false (sym e))
-quit-unrecalled s line_kind.Undisplay typed r e = absurd (true≢false (sym e))
-quit-unrecalled s line_kind.Save typed r e = absurd (true≢false (sym e))
-quit-unrecalled s line_kind.Source typed r e = absurd (true≢false (sym e))
-quit-unrecalled s line_kind.Reload typed r e = absurd (true≢false (sym e))
+quit-said s talkers.Person r line e = ap (λ kind. meant_by s r.points kind (read_as s r line)) (end-kind (kind_of (words line)) e)
 
 pub quit-recalled : (s : SessionState) (talker : Talker) (r : RecallState) (line : List ℕ) → is_quit talker line ≡ true → recalled s talker r line ≡ r
 quit-recalled s talkers.Program r line e = refl
-quit-recalled s talkers.Person r line e = quit-unrecalled s (kind_of (words line)) (read_as s r line) r e
+quit-recalled s talkers.Person r line e = ap (λ kind. recalled_by s kind (read_as s r line) r) (end-kind (kind_of (words line)) e)
 
 pub quit-saves : (o : OriginValue) (talker : Talker) (r : RecallState) (line : List ℕ) → is_quit talker line ≡ true → saves_of o talker r line ≡ []
 quit-saves o talkers.Program r line e = refl
-quit-saves o talkers.Person r line e = quit-unsaved (kind_of (words line)) (bundle_of o r.done) (words line) e
+quit-saves o talkers.Person r line e = ap (λ kind. saves_by kind (bundle_of o r.done) (words line)) (end-kind (kind_of (words line)) e)
 
 module _ (s : SessionState) (talker : Talker) (r : RecallState) (line : List ℕ) (all more : List (List ℕ)) (e : all ≡ line ∷ more) where
   abbrev said-one : List (List ℕ)
@@ -407,11 +363,6 @@ all-read old mid new t bytes part e first second none is =
     let known = left-known old new t (bytes ++ part) e (Consumes-trans old mid new bytes part first second) in
     known.2 ∙ ap (λ r. (bytes ++ part) ++ r) (at-end new known.0 known.1 is) ∙ append-nil (bytes ++ part) ∙ ap (λ r. bytes ++ r) none
 
-length-take : (n : ℕ) (xs : List ℕ) → n ≤ length xs → length (take n xs) ≡ n
-length-take zero xs le = refl
-length-take (suc n) [] le = absurd (omega arith)
-length-take (suc n) (x ∷ xs) le = ap suc (length-take n xs (omega arith))
-
 -- a read that gave bytes
 pub read-more : (reads n : ℕ) (bytes buffer : List ℕ) → reads ≤ length bytes → 0 < n → n ≤ length buffer → reads + 1 ≤ length (bytes ++ take n buffer)
-read-more reads n bytes buffer le some within = omega (arith, length-append bytes (take n buffer), length-take n buffer within)
+read-more reads n bytes buffer le some within = omega (arith, length-append bytes (take n buffer), length-take-le n buffer within)

@@ -1,21 +1,10 @@
 -- What several writes, one after the other, did to a writer's bytes.
-use Rattle.std.proofs.Common.{◌≡◌, ℕ, ◌+◌, ◌≤◌, List, [], ◌++◌, length, take, Option, None, Some, sym, ap, ◌∙◌, arith, append_assoc, subst}
-use Rattle.std.proofs.lemmas.List.{take-append-le, length-append, append-nil}
+use Rattle.std.proofs.Common.{◌≡◌, ℕ, ◌+◌, ◌≤◌, List, ◌++◌, length, take, Option, sym, ap, arith, subst}
+use Rattle.std.proofs.lemmas.List.{take-append-le, length-append}
 use Rattle.std.proofs.Math.Seq.{take-append-add, take-length}
+pub use Rattle.std.proofs.KnownBytes.{Appends-nil as Appends-nothing, Appends-trans as Appends-then}
 use Rattle.std.specs.Io.KnownBytes.{Appends}
 use Rattle.mix_stream.specs.Stream.{AppendsFront}
-
--- bytes, and then others
-pub Appends-then : (a b c : Option (List ℕ)) (xs ys : List ℕ) → Appends a b xs → Appends b c ys → Appends a c (xs ++ ys)
-Appends-then None b c xs ys h k = tt
-Appends-then (Some x) None c xs ys h k = absurd h
-Appends-then (Some x) (Some y) None xs ys h k = absurd k
-Appends-then (Some x) (Some y) (Some z) xs ys h k = k ∙ ap (λ t. t ++ ys) h ∙ append_assoc x xs ys
-
--- nothing
-pub Appends-nothing : (a : Option (List ℕ)) → Appends a a []
-Appends-nothing None = tt
-Appends-nothing (Some x) = sym (append-nil x)
 
 -- the same bytes in another form
 pub Appends-same : (a b : Option (List ℕ)) (xs ys : List ℕ) → xs ≡ ys → Appends a b xs → Appends a b ys

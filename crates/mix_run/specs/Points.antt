@@ -1,6 +1,6 @@
 -- The points of a talk: cells where the runs of a person stop. They stand beside the machine, so no change sets one, and none that is taken back takes
 -- one away. A run with points stands for a line of a script that waits for their locations.
-use Rattle.std.specs.Prelude.{ℕ, ◌==◌, List, [], ◌∷◌, ◌++◌, Bool, true, false, codes, drop, is_ok, is_some, option_and_then, Option, None, Some, Result, Ok, Err, if◌then◌else◌}
+use Rattle.std.specs.Prelude.{ℕ, ◌==◌, List, [], ◌∷◌, ◌++◌, Bool, false, codes, drop, is_ok, is_some, option_and_then, Option, None, Some, Result, Ok, Err, if◌then◌else◌}
 use Rattle.std.specs.Fmt.{decimal}
 use Rattle.std.specs.List.{list_any}
 use Rattle.std.specs.Result.{result_ok}

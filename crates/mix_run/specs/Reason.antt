@@ -1,6 +1,6 @@
--- Where a name leads, and why a file can't be opened, created or written: the reason of an error, and what is told of it after the name of the file.
-use Rattle.std.specs.Prelude.{ℕ, List, codes, if◌then◌else◌}
-use Rattle.std.specs.Str.{bytes_eq}
+-- Why a file can't be opened, created or written: the reason of an error, and what is told of it
+-- after the name of the file.
+use Rattle.std.specs.Prelude.{ℕ, List, codes}
 use Rattle.std.specs.declared.io.ErrorKind.{ErrorKind}
 use Rattle.std.specs.declared.io.ErrorKind.TheVariants as kind
 use Rattle.mix_run.specs.declared.reason.Reason.{Reason}
@@ -28,7 +28,3 @@ reason_text reason.LongName = codes ": File name too long"
 reason_text reason.Full = codes ": No space left on device"
 reason_text reason.ReadOnly = codes ": Read-only file system"
 reason_text reason.Other = codes ""
-
--- `-` is standard input
-abbrev pub path_of : List ℕ → List ℕ
-path_of name = if bytes_eq name (codes "-") then codes "/dev/stdin" else name

@@ -1,6 +1,6 @@
 //! The run of a bundle, and a bundle of what was done.
 
-ghost use Rattle.std.specs.Prelude.{◌≡◌, ◌≢◌, ◌<◌, ◌+◌, ◌-◌, ◌^◌, ◌++◌, ◌∷◌, ℕ, List, Some, Err, IfOk, OnOk, false, codes, length, slice_get};
+ghost use Rattle.std.specs.Prelude.{◌≡◌, ◌≢◌, ◌<◌, ◌+◌, ◌-◌, ◌^◌, ◌++◌, ℕ, List, Some, Err, IfOk, OnOk, false, length, slice_get};
 ghost use Rattle.std.specs.Io.KnownBytes.{Keeps};
 ghost use Rattle.mix_run.specs.Bundle.{bundle_of, ended, is_end_byte, marked, origin_of};
 ghost use Rattle.mix_run.specs.Output.{Meets, IsStatus, output, bundle_output, max_bundle_bytes};

@@ -5,7 +5,7 @@ ghost use Rattle.mix_check.specs.Report.{has_faults};
 ghost use Rattle.mix_stream.specs.Stream.{ConsumesAtMost, CountsFailure};
 ghost use Rattle.mixal_asm.specs.Assembly.{max_source_bytes};
 ghost use Rattle.mix_run.specs.Check.{Named, Reported, check_output, report_of};
-ghost use Rattle.mix_run.specs.Fault.{IsMemoryOrRead, IsMemoryOrWrite};
+ghost use Rattle.mix_run.specs.Fault.{IsMemoryOrRead};
 ghost use Rattle.mix_run.specs.Output.{IsStatus, Meets};
 
 use crate::fault::ToolFault;

@@ -28,30 +28,8 @@ use std::alloc::Global;
 /// The most bytes that a script may have.
 pub(crate) const MAX_SCRIPT_BYTES: usize = 1_048_576;
 
-// A script in a session.
-#[tactic(auto, unfolding(crate::specs::Output::outcome_of_script))]
-fn execute<W: Out>(
-    session: &mut Session,
-    script: &[u8],
-    echo: bool,
-    out: &mut W,
-) -> Result<u8, ToolFault>
-    requires { W.failed out.old < 2 ^ 64 - 1 }
-    ensures output { Meets (outcome_of_script echo session.old script.now) result (W.told out.old) (W.told out.new) }
-    ensures write { CountsFailure (result ≡ Err ToolFault.Write) (W.failed out.old) (W.failed out.new) }
-    ensures unread { result ≢ Err ToolFault.Read }
-    ensures status { result ≢ Ok 1 }
-    ensures deck { (f : DeckFault) → result ≢ Err (ToolFault.Deck f) }
-    ensures ends { IfOk result IsStatus }
-{
-    if script.len() > MAX_SCRIPT_BYTES {
-        return Err(ToolFault::Long);
-    }
-    let told = execute_lines(session, script, echo, out)?;
-    Ok(status(told))
-}
-
 /// A script on the machine that a program loads, with its units.
+#[tactic(auto, unfolding(crate::specs::Output::outcome_of_script))]
 pub(crate) fn open_and_execute<W: Out>(
     alloc: Global,
     program: Program,
@@ -69,7 +47,11 @@ pub(crate) fn open_and_execute<W: Out>(
     ensures ends { IfOk result IsStatus }
 {
     let mut session = Session::open(alloc, program, units)?;
-    execute(&mut session, script, echo, out)
+    if script.len() > MAX_SCRIPT_BYTES {
+        return Err(ToolFault::Long);
+    }
+    let told = execute_lines(&mut session, script, echo, out)?;
+    Ok(status(told))
 }
 
 // The script of an assembled source, with the units of its deck.

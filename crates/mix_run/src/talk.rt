@@ -30,7 +30,6 @@ mod heard;
 mod input;
 mod listing;
 mod moment;
-mod opened;
 mod pending;
 mod points;
 mod recall;
@@ -40,11 +39,18 @@ mod source;
 mod stopped;
 mod watched;
 
+use crate::beside::tell_report;
+use crate::bundle::{MAX_BUNDLE_BYTES, parts_of};
 use crate::fault::ToolFault;
 use crate::opener::Opener;
-use crate::talk::opened::talk_of_source;
+use crate::statuses::refuse_source;
+use crate::talk::input::talk;
+use crate::talk::moment::Moment;
+use crate::units::given_deck;
 pub use aside::Talker;
-use mix_stream::{In, Out};
+use mix_refused::{Memory, Refused};
+use mix_stream::{In, Out, read_up_to};
+use mixal_asm::assemble;
 use std::alloc::Global;
 
 /// Where a talk goes on: who gives the lines, the input that has them, the output of the replies, and the error output, on which other things are
@@ -146,5 +152,24 @@ pub fn run_talk<O: Opener, S: In, D: In, R: In, W: Out, E: Out>(
     ensures unasked { O.asked files.new ≡ O.asked files.old }
     ensures untouched { streams.old.talker ≡ Talker.Program → files.new ≡ files.old }
 {
-    talk_of_source(alloc, name, texts, given, files, streams)
+    let text = read_up_to(alloc, &mut texts.source, MAX_BUNDLE_BYTES + 1)?;
+    let parts = parts_of(&text);
+    match assemble(alloc, parts.source) {
+        Err(Refused::Memory) => Err(ToolFault::Memory),
+        Err(Refused::Fault(fault)) => {
+            tell_report(alloc, name, parts.source, &mut streams.errors);
+            refuse_source(alloc, fault, &mut streams.out)
+        }
+        Ok(program) => {
+            let deck = match given_deck(alloc, parts.deck, &mut texts.deck, given) {
+                Ok(deck) => deck,
+                Err(fault) => return Err(fault),
+            };
+            let mut moment = match Moment::begin(alloc, name, parts.source, program, deck) {
+                Ok(moment) => moment,
+                Err(Memory) => return Err(ToolFault::Memory),
+            };
+            talk(&mut moment, files, streams)
+        }
+    }
 }

@@ -83,21 +83,6 @@ pub(crate) fn given_deck<D: In>(
     }
 }
 
-/// The units of a deck that is read up to one byte more than it may have.
-pub(crate) fn read_units<D: In>(alloc: Global, deck: &mut D) -> Result<Units, ToolFault>
-    requires { D.failed deck.old < 2 ^ 64 - 1 }
-    ensures units { (d : List ℕ) → D.rest deck.old ≡ Some d → GivesUnits (deck_of d) result }
-    ensures whole { (d : List ℕ) → D.rest deck.old ≡ Some d → IfOk result (λ _. D.rest deck.new ≡ Some (drop (max_deck_bytes + 1) d)) }
-    ensures read { CountsFailure (result ≡ Err ToolFault.Read) (D.failed deck.old) (D.failed deck.new) }
-    ensures deck { ConsumesAtMost (D.rest deck.old) (D.rest deck.new) (max_deck_bytes + 1) }
-    ensures only { result ≢ Err ToolFault.Write }
-{
-    match read_deck(alloc, deck) {
-        Ok(deck) => Ok(deck.units),
-        Err(fault) => Err(fault),
-    }
-}
-
 /// The units of a deck that is read if it is given, and otherwise of a text.
 pub(crate) fn given_units<D: In>(
     alloc: Global,
@@ -114,7 +99,10 @@ pub(crate) fn given_units<D: In>(
     ensures only { result ≢ Err ToolFault.Write }
 {
     if given {
-        read_units(alloc, deck)
+        match read_deck(alloc, deck) {
+            Ok(deck) => Ok(deck.units),
+            Err(fault) => Err(fault),
+        }
     } else {
         units_of(alloc, own)
     }

@@ -1,5 +1,5 @@
 -- Some names are opened, and then others.
-use Rattle.std.proofs.Common.{◌≡◌, ◌≢◌, ℕ, List, [], ◌∷◌, ◌++◌, Option, None, Some, Result, Ok, Err, refl, sym, ap, ◌∙◌, subst, append_assoc}
+use Rattle.std.proofs.Common.{◌≡◌, ℕ, List, [], ◌∷◌, ◌++◌, Option, None, Some, Result, Ok, Err, refl, sym, ap, ◌∙◌, subst, append_assoc}
 use Rattle.mix_run.specs.Opening.{Asks, Files, Gives, Missing, Opens, asked_of, missing_of, opened_text, then_asked, then_missing}
 use Rattle.mix_run.specs.declared.reason.Reason.{Reason}
 
@@ -72,13 +72,3 @@ pub opens-end : (all : Files) (xs ys : List (List ℕ)) (a b : Option (List (Lis
     → Opens all xs a b (Some name) → Opens all (xs ++ ys) a b (Some name)
 opens-end all xs ys a b name opens =
     let same = end-names all xs ys name opens.1 in (subst (Asks a b) (sym same.0) opens.0, same.1)
-
--- ---- names that are no empty list
-
-pub named-first : {A : Type 0} (xs ys : List A) → xs ≢ [] → xs ++ ys ≢ []
-named-first [] ys some none = some refl
-named-first (x ∷ xs) ys some none = cc
-
-pub named-later : {A : Type 0} (xs ys : List A) → ys ≢ [] → xs ++ ys ≢ []
-named-later [] ys some none = some none
-named-later (x ∷ xs) ys some none = cc

@@ -1,7 +1,6 @@
 -- A run of a plan is that of its program with the units of its texts.
-use Rattle.std.proofs.Common.{◌≡◌, ◌∙◌, ℕ, Bool, List, [], ◌∷◌, ◌++◌, Option, None, Some, Result, Ok, Err, IfErr, IfOk, ap, arith, inl, inr, refl, subst, sym, take}
-use Rattle.std.proofs.lemmas.List.{append-nil}
-use Rattle.std.specs.Io.KnownBytes.{Appends, Keeps}
+use Rattle.std.proofs.Common.{◌≡◌, ◌∙◌, ℕ, Bool, List, [], ◌∷◌, ◌++◌, Option, Some, Result, Ok, Err, IfErr, IfOk, ap, arith, inl, inr, refl, subst, sym, take}
+use Rattle.std.proofs.KnownBytes.{Appends-nil, Keeps-refl}
 use Rattle.std.specs.Prelude.{option_map, string_bytes}
 use Rattle.mix_files.specs.Bundle.{parts_of}
 use Rattle.mixal_asm.specs.Assembly.{assembly}
@@ -20,27 +19,16 @@ use Rattle.mix_run.specs.declared.fault.ToolFault.TheVariants as faults
 use Rattle.mix_run.specs.declared.print.PrintAnswer.TheVariants.{Refused}
 use Rattle.mix_run.specs.declared.print.Printed.{Printed}
 use Rattle.mix_run.specs.law.Truncation.{parts-read}
-use Rattle.mix_stream.specs.Stream.{CountsFailure}
 use Rattle.mix_tool.specs.Ending.{IsAmong}
 use Rattle.mix_tool.specs.Plan.{names_of_run}
-use Rattle.mix_tool.specs.Run.{Given, Prints, options_of, subject_of, print_outcome, run_draws, run_output, units_asked, with_text, without_file}
+use Rattle.mix_tool.specs.Run.{Given, Prints, options_of, subject_of, print_outcome, run_draws, run_output, units_asked, with_text}
 use Rattle.mix_tool.specs.declared.read.RunFault.{RunFault}
 use Rattle.mix_tool.proofs.EndingLemmas.{among-more, among-right}
 
--- ---- nothing is written
-
-appends-nothing : (told : Option (List ℕ)) → Appends told told []
-appends-nothing None = tt
-appends-nothing (Some bytes) = sym (append-nil bytes)
-
-keeps-same : (told : Option (List ℕ)) → Keeps told told
-keeps-same None = tt
-keeps-same (Some bytes) = refl
-
 -- a read failed, or memory was refused for what is read
 pub prints-unread : (outcome : PrintOutcome) (fault : ToolFault) (told : Option (List ℕ)) → IsMemoryOrRead fault → Prints outcome (Err fault) told told
-prints-unread outcome faults.Memory told only = (0, omega arith, appends-nothing told)
-prints-unread outcome faults.Read told only = keeps-same told
+prints-unread outcome faults.Memory told only = (0, omega arith, Appends-nil told)
+prints-unread outcome faults.Read told only = Keeps-refl told
 prints-unread outcome faults.Write told only = absurd only
 prints-unread outcome (faults.Deck fault) told only = absurd only
 prints-unread outcome faults.Long told only = absurd only
@@ -71,7 +59,7 @@ pub prints-refused : (run : RunPlan) (given : Given) (read source : List ℕ) (f
     → printed.deck.items ≡ [] → Prints (run_output run given) (Ok printed) told told
 unfolding run_output
 prints-refused run given read source fault printed told e s f is none =
-    rw (made-of run given read source (Err fault) e s f, is, none) (refl, appends-nothing told)
+    rw (made-of run given read source (Err fault) e s f, is, none) (refl, Appends-nil told)
 
 pub draws-refused : (run : RunPlan) (given : Given) (read source map : List ℕ) (fault : AsmFault) → read ≡ take 41943041 given.source
     → source ≡ (parts_of read).source → assembly source ≡ Err fault → map ≡ [] → run_draws run given map
@@ -81,9 +69,9 @@ draws-refused run given read source map fault e s f none = rw (made-of run given
 -- one that is assembled, and no units
 no_units : (run : RunPlan) (part : List ℕ) (program : ProgramValue) (units : Result UnitsState DeckFault) (fault : ToolFault) (told : Option (List ℕ))
     → GivesUnits units (Err fault) → Prints (print_outcome (options_of run) part (Ok program) units) (Err fault) told told
-no_units run part program units faults.Memory told h = (0, omega arith, appends-nothing told)
-no_units run part program units faults.Read told h = keeps-same told
-no_units run part program units (faults.Deck fault) told h = rw h (refl, keeps-same told)
+no_units run part program units faults.Memory told h = (0, omega arith, Appends-nil told)
+no_units run part program units faults.Read told h = Keeps-refl told
+no_units run part program units (faults.Deck fault) told h = rw h (refl, Keeps-refl told)
 no_units run part program units faults.Write told h = absurd h
 no_units run part program units faults.Long told h = absurd h
 
@@ -138,16 +126,6 @@ pub leaves-map : (outcome : PrintOutcome) (IsDrawn : List ℕ → Type 0) (done 
 leaves-map outcome IsDrawn (Ok printed) a b n m leaves = leaves.0.1
 leaves-map outcome IsDrawn (Err fault) a b n m broken = tt
 
--- one more write has failed exactly where that is answered
-pub leaves-written : (outcome : PrintOutcome) (IsDrawn : List ℕ → Type 0) (done : Result Printed ToolFault) (a b : Option (List ℕ)) (n m : ℕ)
-    → Leaves outcome IsDrawn done a n b m → CountsFailure (done ≡ Err faults.Write) n m
-leaves-written outcome IsDrawn (Ok printed) a b n m leaves = let same = leaves.2 in (((λ e. absurd cc), (λ more. absurd (omega (arith, same, more)))), (λ other. same))
-leaves-written outcome IsDrawn (Err faults.Memory) a b n m broken = let same = broken.1 in (((λ e. absurd cc), (λ more. absurd (omega (arith, same, more)))), (λ other. same))
-leaves-written outcome IsDrawn (Err faults.Write) a b n m broken = (((λ e. broken.1), (λ more. refl)), (λ other. absurd (other refl)))
-leaves-written outcome IsDrawn (Err faults.Read) a b n m broken = absurd broken
-leaves-written outcome IsDrawn (Err (faults.Deck fault)) a b n m broken = absurd broken
-leaves-written outcome IsDrawn (Err faults.Long) a b n m broken = absurd broken
-
 -- ---- the file of a fault
 
 pub when-err : {A E : Type 0} (r : Result A E) {P Q : E → Type 0} → ((e : E) → P e → Q e) → IfErr r P → IfErr r Q
@@ -182,11 +160,3 @@ pub file-among : (run : RunPlan) (ran : Result Printed RunFault) (file : List �
     → IfErr ran (λ e. file ≡ e.file.now) → IfErr ran (λ e. IsAmong (names_of_run run) e.file.now) → IsAmong (names_of_run run) file
 file-among run (Ok printed) file is same among = inl is
 file-among run (Err broken) file is same among = subst (IsAmong (names_of_run run)) (sym same) among
-
--- no read fails while a program is run
-pub leaves-unread : (outcome : PrintOutcome) (IsDrawn : List ℕ → Type 0) (done : Result Printed ToolFault) (ran : Result Printed RunFault)
-    (a b : Option (List ℕ)) (n m : ℕ) (P : RunFault → Type 0) → without_file ran ≡ done → Leaves outcome IsDrawn done a n b m
-    → IfErr ran (λ e. e.fault ≡ faults.Read → P e)
-leaves-unread outcome IsDrawn done (Ok printed) a b n m P same leaves = tt
-leaves-unread outcome IsDrawn done (Err broken) a b n m P same leaves =
-    λ read. absurd (subst (λ (r : Result Printed ToolFault). Leaves outcome IsDrawn r a n b m) (sym same ∙ ap Err read) leaves)

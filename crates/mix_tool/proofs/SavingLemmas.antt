@@ -1,7 +1,7 @@
 -- What a run saves, by its status.
-use Rattle.std.proofs.Common.{◌≡◌, ◌∙◌, ◌⊎◌, ⊎_elim, ℕ, List, [], ◌∷◌, ◌++◌, Option, Some, Result, Ok, Err, ap, inl, inr, refl, sym}
+use Rattle.std.proofs.Common.{◌≡◌, ◌∙◌, ◌⊎◌, ⊎_elim, ℕ, List, [], ◌∷◌, ◌++◌, Option, Some, Result, Ok, Err, ap, inl, inr, sym}
 use Rattle.std.specs.Prelude.{IfOk, unwrap_or}
-use Rattle.mix_run.specs.Opening.{Asks, Saved, noted, noted_one}
+use Rattle.mix_run.specs.Opening.{Asks, Saved, noted}
 use Rattle.mix_run.specs.PrintOutput.{PrintOutcome, kept_of}
 use Rattle.mix_run.specs.declared.fault.ToolFault.{ToolFault}
 use Rattle.mix_run.specs.declared.print.PrintAnswer.{PrintAnswer}
@@ -15,16 +15,6 @@ use Rattle.mix_tool.proofs.CheckLemmas.{asks-nothing}
 use Rattle.mix_tool.specs.Plan.{SavesOn}
 use Rattle.mix_tool.specs.Run.{Given, Prints}
 use Rattle.mix_tool.specs.Ending.{ByEnd, Creates, EndsWith, Saves, answer_of, saved_after, saved_as, saved_by, status_of_end, status_of_print}
-
--- some files are saved, and then others
-pub noted-both : (old : Option (List Saved)) (xs ys : List Saved) → noted (noted old xs) ys ≡ noted old (xs ++ ys)
-noted-both old [] ys = refl
-noted-both old (x ∷ xs) ys = noted-both (noted_one old x) xs ys
-
--- all are saved
-pub ends-saved : (names : List (List ℕ)) (status : ℕ) → EndsWith names status status
-ends-saved [] status = refl
-ends-saved (name ∷ names) status = inl refl
 
 -- what holds after a run: this if it came to its end, and else that
 abbrev pub AfterEnd : Result PrintAnswer ToolFault → Type 0 → Type 0 → Type 0

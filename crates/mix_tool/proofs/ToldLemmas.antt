@@ -1,13 +1,9 @@
 -- Lines that are told beside, one after the other, and texts that are saved or not.
-use Rattle.std.proofs.Common.{◌≡◌, ◌⊎◌, ℕ, List, [], ◌∷◌, ◌++◌, Option, None, Some, Result, Ok, Err, IfOk, inl, inr, refl, subst}
+use Rattle.std.proofs.Common.{◌≡◌, ℕ, List, [], ◌∷◌, ◌++◌, Result, IfOk, refl, subst}
 use Rattle.std.specs.Result.{MatchResult}
-use Rattle.mix_run.specs.Opening.{WhyUnsaved, named, refused_by}
-use Rattle.mix_run.specs.declared.fault.ToolFault.{ToolFault}
-use Rattle.mix_run.specs.declared.print.PrintAnswer.{PrintAnswer}
-use Rattle.mix_tool.specs.Ending.{EndsWith, memory_line}
-use Rattle.mix_tool.specs.Told.{Errors, IsRefusable, SavesTold, TellsAll, TellsBeside, WroteBeside, at_end, save_told, saved_status}
+use Rattle.mix_tool.specs.Ending.{memory_line}
+use Rattle.mix_tool.specs.Told.{Errors, TellsAll, TellsBeside, WroteBeside}
 use Rattle.mix_tool.proofs.EndingLemmas.{either_told}
-use Rattle.mix_tool.proofs.SavingLemmas.{ends-saved}
 
 -- a line, or where memory is refused for it another
 pub told-line : {S E : Type 0} (r : Result S E) (bytes : S → List ℕ) (line : List ℕ) (a b : Errors) → IfOk r (λ s. bytes s ≡ line)
@@ -24,13 +20,3 @@ tells-two x y a b c first next = (b, first, (c, next, refl))
 pub tells-then : (xs ys : List (List ℕ)) (a b c : Errors) → TellsAll xs a b → TellsAll ys b c → TellsAll (xs ++ ys) a c
 tells-then [] ys a b c same next = subst (λ (m : Errors). TellsAll ys m c) same next
 tells-then (x ∷ xs) ys a b c told next = (told.0, told.1, tells-then xs ys told.0 b c told.2 next)
-
--- the status is that of the run, or 2 where a text for which a file is named is not saved
-pub ends-as : (keep svg : Option (List ℕ)) (status : ℕ) (kept drawn : Result Unit WhyUnsaved) → IsRefusable keep kept → IsRefusable svg drawn
-    → EndsWith (named keep ++ named svg) status (saved_status status kept drawn)
-ends-as keep svg status (Ok x) (Ok y) a b = ends-saved (named keep ++ named svg) status
-ends-as None None status (Ok x) (Err why) a b = absurd cc
-ends-as None (Some s) status (Ok x) (Err why) a b = inr refl
-ends-as (Some k) svg status (Ok x) (Err why) a b = inr refl
-ends-as None svg status (Err why) drawn a b = absurd cc
-ends-as (Some k) svg status (Err why) drawn a b = inr refl

@@ -31,6 +31,8 @@ use Rattle.mix_run.specs.declared.table.TableFormat.{TableFormat as RunFormat}
 use Rattle.mix_run.specs.declared.table.TableFormat.TheVariants as table
 use Rattle.mix_stream.specs.Stream.{AppendsFront}
 use Rattle.mix_tool.specs.declared.read.RunFault.{RunFault}
+use Rattle.mix_tool.specs.declared.read.TextUnit.{TextUnit}
+use Rattle.mix_tool.specs.declared.read.TextUnit.TheVariants as text_unit
 
 -- the texts of a plan: one that has no file is empty
 pub record Given : Type 0 where
@@ -78,6 +80,11 @@ options_of run =
       table = option_map table_of run.table;
       map = is_some run.svg;
     }
+
+-- a unit whose lines may be read from a text
+abbrev pub number_of : TextUnit → ℕ
+number_of text_unit.Cards = 16
+number_of text_unit.Typewriter = 19
 
 -- the lines of a text, if there is one, for a unit of those that were read before
 abbrev pub with_text : ℕ → Result UnitsState DeckFault → Bool → List ℕ → Result UnitsState DeckFault

@@ -1,6 +1,6 @@
 //! A plan is done: its files are opened, and the run is made on their texts.
 
-ghost use Rattle.std.specs.Prelude.{◌≡◌, ◌≢◌, ◌<◌, ◌≤◌, ◌-◌, ◌^◌, ℕ, List, Option, Ok, Err, Some, true, false};
+ghost use Rattle.std.specs.Prelude.{◌≡◌, ◌≢◌, ◌<◌, ◌≤◌, ◌-◌, ◌^◌, ℕ, List, Ok, Err, Some, true, false};
 ghost use Rattle.dap_stream.specs.declared.broken.Broken.{Broken};
 ghost use Rattle.dap_stream.specs.declared.broken.Broken.TheVariants as broken;
 ghost use Rattle.mix_dap.specs.Dialogue.{DialogueAs, TellsBroken};
@@ -8,7 +8,7 @@ ghost use Rattle.mix_stream.specs.Stream.{CountsFailure};
 ghost use Rattle.mix_lsp.specs.Served.{ServedAs};
 ghost use Rattle.mix_run.specs.Opening.{Asks, Files, asked_of, missing_of};
 ghost use Rattle.mix_tool.specs.Ending.{Creates};
-ghost use Rattle.mix_tool.specs.Plan.{AreFresh, HoldTexts, DoneAfter, IsDone, RunsOn, SavesOn, creates_of, files_of, given_of, adapts, hears_client, in_order, is_quiet, names_of, reads_input, seen, sources_of, speaks};
+ghost use Rattle.mix_tool.specs.Plan.{AreFresh, HoldTexts, DoneAfter, IsDone, RunsOn, SavesOn, creates_of, files_of, given_of, adapts, hears_client, is_quiet, names_of, reads_input, seen, sources_of, speaks};
 ghost use Rattle.mix_tool.specs.Run.{Given};
 
 use crate::asked::names_in;
@@ -23,17 +23,16 @@ use mix_run::{Opener, Streams, run_bundle, run_list};
 use mix_stream::{In, Out};
 use std::alloc::Global;
 
-// The run of a plan on its texts; a check opens its sources, and a client of the debug adapter finds others in a library.
-fn run_on<O: Opener + Library, C: In, R: In, W: Out, E: Out>(
+// The run of a plan that hears no client on its texts; a check opens its sources.
+fn run_on<O: Opener, R: In, W: Out, E: Out>(
     files: &mut O,
     alloc: Global,
     plan: &Plan,
     texts: Texts<O::Reader>,
-    client: &mut C,
     streams: &mut Streams<R, W, E>,
 ) -> u8
     requires fresh { AreFresh O.Reader.failed texts }
-    requires client_count { C.failed client.old < 2 ^ 64 - 1 }
+    requires clientless { hears_client plan.now ≡ false }
     requires input_count { R.failed streams.old.input < 2 ^ 64 - 1 }
     requires out_count { W.failed streams.old.out < 2 ^ 64 - 1 }
     requires errors_count { E.failed streams.old.errors < 2 ^ 64 - 1 }
@@ -46,23 +45,6 @@ fn run_on<O: Opener + Library, C: In, R: In, W: Out, E: Out>(
     ensures created { (names : List (List ℕ)) → creates_of plan.now ≡ Some names → Creates names result (O.created files.old) (O.created files.new) }
     ensures saved { (given : Given) → HoldTexts O.Reader.rest texts given → SavesOn plan.now given result (O.saved files.old) (O.saved files.new) }
     ensures input { reads_input plan.now ≡ false → streams.new.input ≡ streams.old.input }
-    ensures client { hears_client plan.now ≡ false → client.new ≡ client.old }
-    ensures served { adapts plan.now ≡ true → result ≢ 2
-        → (result ≡ 0) × DialogueAs (Ok tt) (C.rest client.old) (C.rest client.new) (W.told streams.old.out) (W.told streams.new.out)
-        × (C.failed client.new ≡ C.failed client.old) }
-    ensures broken { adapts plan.now ≡ true → result ≡ 2
-        → (why : Broken) × DialogueAs (Err why) (C.rest client.old) (C.rest client.new) (W.told streams.old.out) (W.told streams.new.out)
-        × CountsFailure (why ≡ broken.Read) (C.failed client.old) (C.failed client.new)
-        × CountsFailure (why ≡ broken.Write) (W.failed streams.old.out) (W.failed streams.new.out)
-        × (E.failed streams.new.errors ≡ E.failed streams.old.errors → TellsBroken why (E.told streams.old.errors) (E.told streams.new.errors)) }
-    ensures spoken { speaks plan.now ≡ true → result ≢ 2
-        → ServedAs (Ok result) (C.rest client.old) (C.rest client.new) (W.told streams.old.out) (W.told streams.new.out)
-        × (C.failed client.new ≡ C.failed client.old) }
-    ensures speechless { speaks plan.now ≡ true → result ≡ 2
-        → (why : Broken) × ServedAs (Err why) (C.rest client.old) (C.rest client.new) (W.told streams.old.out) (W.told streams.new.out)
-        × CountsFailure (why ≡ broken.Read) (C.failed client.old) (C.failed client.new)
-        × CountsFailure (why ≡ broken.Write) (W.failed streams.old.out) (W.failed streams.new.out)
-        × (E.failed streams.new.errors ≡ E.failed streams.old.errors → TellsBroken why (E.told streams.old.errors) (E.told streams.new.errors)) }
     ensures range { result ≤ 3 }
     ensures written { result ≢ 2 → W.failed streams.new.out ≡ W.failed streams.old.out }
     ensures quiet { is_quiet plan.now ≡ true → result ≢ 2 → streams.new.errors ≡ streams.old.errors }
@@ -80,14 +62,7 @@ fn run_on<O: Opener + Library, C: In, R: In, W: Out, E: Out>(
         Plan::Check { sources, json } => check_files(files, alloc, sources, *json, streams),
         Plan::Debug(session) => debug_on(files, alloc, session, texts, streams),
         Plan::Run(run) => run_texts(files, alloc, run, texts, streams),
-        Plan::Dap => {
-            let (out, errors) = (&mut streams.out, &mut streams.errors);
-            serve_from(files, alloc, client, out, errors)
-        }
-        Plan::Lsp => {
-            let (out, errors) = (&mut streams.out, &mut streams.errors);
-            mix_lsp::serve(alloc, client, out, errors)
-        }
+        Plan::Dap | Plan::Lsp => unreachable!(),
     }
 }
 
@@ -162,8 +137,18 @@ pub fn run_plan<O: Opener + Library, C: In, R: In, W: Out, E: Out>(
     ensures written { result ≢ 2 → W.failed streams.new.out ≡ W.failed streams.old.out }
     ensures quiet { is_quiet plan.now ≡ true → result ≢ 2 → streams.new.errors ≡ streams.old.errors }
 {
-    match open_texts(files, names_in(plan)) {
-        Ok(texts) => run_on(files, alloc, plan, texts, client, streams),
-        Err(fault) => tell_not_opened(alloc, fault.name, fault.reason, &mut streams.errors),
+    match plan {
+        Plan::Dap => {
+            let (out, errors) = (&mut streams.out, &mut streams.errors);
+            serve_from(files, alloc, client, out, errors)
+        }
+        Plan::Lsp => {
+            let (out, errors) = (&mut streams.out, &mut streams.errors);
+            mix_lsp::serve(alloc, client, out, errors)
+        }
+        _ => match open_texts(files, names_in(plan)) {
+            Ok(texts) => run_on(files, alloc, plan, texts, streams),
+            Err(fault) => tell_not_opened(alloc, fault.name, fault.reason, &mut streams.errors),
+        },
     }
 }

@@ -8,7 +8,7 @@ ghost use Rattle.mix_run.specs.UnitsRead.{GivesUnits, deck_given};
 ghost use Rattle.mix_stream.specs.Stream.{ConsumesAtMost, CountsFailure};
 ghost use Rattle.mix_tool.specs.Ending.{IsAmong};
 ghost use Rattle.mix_tool.specs.Plan.{AreFresh, HasFailed, names_of_run, rest_of};
-ghost use Rattle.mix_tool.specs.Run.{Given, IsUnread, units_asked, with_text, without_file};
+ghost use Rattle.mix_tool.specs.Run.{Given, IsUnread, number_of, units_asked, with_text, without_file};
 
 use crate::texts::Texts;
 use mix_machine::{MAX_DECK_BYTES, Units};
@@ -83,45 +83,37 @@ fn units_of_deck<'p, D: In>(
     }
 }
 
-// Units with the cards of the text that is named, if one is.
-fn units_with_cards<'n, C: In>(
-    alloc: Global,
-    units: Units,
-    name: &'n Option<String>,
-    cards: &mut C,
-) -> Result<Units, RunFault<'n>>
-    requires { C.failed cards.old ≡ 0 }
-    ensures units { (c : List ℕ) → C.rest cards.old ≡ Some c → GivesUnits (with_text 16 (Ok units) (is_some name.now) c) (without_file result) }
-    ensures file { IfErr result (λ e. option_map string_bytes name.now ≡ Some e.file.now) }
-    ensures unread { IfErr result (λ e. e.fault ≡ ToolFault.Read → IsUnread (option_map string_bytes name.now) (C.failed cards.new) e.file.now) }
-    ensures only { IfErr result (λ e. e.fault ≢ ToolFault.Write) }
-{
-    match name {
-        None => Ok(units),
-        Some(file) => match read_text(alloc, cards, file.as_str(), MAX_DECK_BYTES + 1) {
-            Ok(text) => of_file(with_cards(alloc, units, &text), file.as_str()),
-            Err(broken) => Err(broken),
-        },
-    }
+/// A unit whose lines may be read from a text of their own.
+#[derive(Clone, Copy)]
+pub(crate) enum TextUnit {
+    Cards,
+    Typewriter,
 }
 
-// Units with the lines for the typewriter, in the same way.
-fn units_with_lines<'n, T: In>(
+// Units with the lines of the text that is named for one of them, if one is.
+fn units_with_text<'n, T: In>(
     alloc: Global,
     units: Units,
+    unit: TextUnit,
     name: &'n Option<String>,
-    typewriter: &mut T,
+    text: &mut T,
 ) -> Result<Units, RunFault<'n>>
-    requires { T.failed typewriter.old ≡ 0 }
-    ensures units { (t : List ℕ) → T.rest typewriter.old ≡ Some t → GivesUnits (with_text 19 (Ok units) (is_some name.now) t) (without_file result) }
+    requires { T.failed text.old ≡ 0 }
+    ensures units { (t : List ℕ) → T.rest text.old ≡ Some t → GivesUnits (with_text (number_of unit) (Ok units) (is_some name.now) t) (without_file result) }
     ensures file { IfErr result (λ e. option_map string_bytes name.now ≡ Some e.file.now) }
-    ensures unread { IfErr result (λ e. e.fault ≡ ToolFault.Read → IsUnread (option_map string_bytes name.now) (T.failed typewriter.new) e.file.now) }
+    ensures unread { IfErr result (λ e. e.fault ≡ ToolFault.Read → IsUnread (option_map string_bytes name.now) (T.failed text.new) e.file.now) }
     ensures only { IfErr result (λ e. e.fault ≢ ToolFault.Write) }
 {
     match name {
         None => Ok(units),
-        Some(file) => match read_text(alloc, typewriter, file.as_str(), MAX_DECK_BYTES + 1) {
-            Ok(text) => of_file(with_typewriter(alloc, units, &text), file.as_str()),
+        Some(file) => match read_text(alloc, text, file.as_str(), MAX_DECK_BYTES + 1) {
+            Ok(text) => match unit {
+                TextUnit::Cards => of_file(with_cards(alloc, units, &text), file.as_str()),
+                TextUnit::Typewriter => of_file(
+                    with_typewriter(alloc, units, &text),
+                    file.as_str(),
+                ),
+            },
             Err(broken) => Err(broken),
         },
     }
@@ -142,11 +134,15 @@ pub(crate) fn units_of_run<'p, R: In>(
     ensures unread { IfErr result (λ e. e.fault ≡ ToolFault.Read → HasFailed R.failed plan.now texts.new e.file.now) }
     ensures only { IfErr result (λ e. e.fault ≢ ToolFault.Write) }
 {
-    match units_of_deck(alloc, plan, own, &mut texts.deck) {
-        Err(broken) => Err(broken),
-        Ok(units) => match units_with_cards(alloc, units, &plan.cards, &mut texts.cards) {
-            Err(broken) => Err(broken),
-            Ok(units) => units_with_lines(alloc, units, &plan.typewriter, &mut texts.typewriter),
-        },
-    }
+    let units = match units_of_deck(alloc, plan, own, &mut texts.deck) {
+        Err(broken) => return Err(broken),
+        Ok(units) => units,
+    };
+    let cards = TextUnit::Cards;
+    let units = match units_with_text(alloc, units, cards, &plan.cards, &mut texts.cards) {
+        Err(broken) => return Err(broken),
+        Ok(units) => units,
+    };
+    let lines = TextUnit::Typewriter;
+    units_with_text(alloc, units, lines, &plan.typewriter, &mut texts.typewriter)
 }

@@ -1,6 +1,6 @@
 //! The files of a plan, opened into one record of readers.
 
-ghost use Rattle.std.specs.Prelude.{◌≡◌, ◌≢◌, ℕ, List, Option, None, Some, [], IfOk, IfErr, option_map};
+ghost use Rattle.std.specs.Prelude.{◌≡◌, Option, None, Some, [], IfOk, IfErr, option_map};
 ghost use Rattle.std.specs.Option.{option_map_or};
 ghost use Rattle.mix_run.specs.Opening.{Files, Opens, named, text_of};
 ghost use Rattle.mix_tool.specs.Plan.{AreFresh, HoldTexts, given_of, in_order, names_in, rest_of};
@@ -76,7 +76,6 @@ fn open_text<'n, O: Opener>(
     ensures text { (all : Files) → O.holds files.old ≡ Some all
         → IfOk result (λ t. rest_of O.Reader.rest t.reader ≡ Some (text_of all (option_map (λ n. n.now) name.entry))) }
     ensures fresh { IfOk result (λ t. option_map_or O.Reader.failed t.reader 0 ≡ 0) }
-    ensures named { IfErr result (λ _. named (option_map (λ n. n.now) name.entry) ≢ []) }
     ensures same { O.holds files.new ≡ O.holds files.old }
     ensures unsaved { (O.created files.new ≡ O.created files.old) × (O.saved files.new ≡ O.saved files.old) × (O.refusal files.new ≡ O.refusal files.old) }
 {
@@ -102,7 +101,6 @@ pub(crate) fn open_texts<'n, O: Opener>(
         → IfErr result (λ e. Opens all (in_order (names_in names.entry)) (O.asked files.old) (O.asked files.new) (Some (e.name.now, e.reason))) }
     ensures texts { (all : Files) → O.holds files.old ≡ Some all → IfOk result (λ t. HoldTexts O.Reader.rest t (given_of all (names_in names.entry))) }
     ensures fresh { IfOk result (AreFresh O.Reader.failed) }
-    ensures named { IfErr result (λ _. in_order (names_in names.entry) ≢ []) }
     ensures same { O.holds files.new ≡ O.holds files.old }
     ensures unsaved { (O.created files.new ≡ O.created files.old) × (O.saved files.new ≡ O.saved files.old) × (O.refusal files.new ≡ O.refusal files.old) }
 {

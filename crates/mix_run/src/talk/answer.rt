@@ -1,6 +1,6 @@
 //! One line of a talk: the lines of a script that it stands for, and their answer.
 
-ghost use Rattle.std.specs.Prelude.{◌≡◌, ◌<◌, ◌-◌, ◌^◌, ◌↔◌, ◌∷◌, [], None, Err, IfErr, IfOk, IfSome, OnOk, true};
+ghost use Rattle.std.specs.Prelude.{◌≡◌, ◌<◌, ◌-◌, ◌^◌, ◌∷◌, [], Err, IfErr, IfOk, OnOk};
 ghost use Rattle.std.specs.Io.KnownBytes.{Appends};
 ghost use Rattle.mix_run.specs.Asked.{after_lines, is_quit};
 ghost use Rattle.mix_run.specs.Fault.{IsMemoryOrWrite};
@@ -18,9 +18,11 @@ use crate::opener::Opener;
 use crate::talk::aside::{Talker, after_reply, help, say_bytes, tell};
 use crate::talk::asked::{Point, point_in};
 use crate::talk::done::done;
+use crate::talk::heard::Heard;
 use crate::talk::listing::list;
 use crate::talk::moment::Moment;
 use crate::talk::recall::Recall;
+use crate::talk::save::save;
 use crate::talk::source::refuse_in_file;
 use crate::talk::stopped::{tell_more, tell_run, tell_too_many};
 use mix_person::{Line, kind_of, only_said};
@@ -95,52 +97,8 @@ fn answer_command<W: Out, E: Out>(
     Ok(told)
 }
 
-// A person's line: the command that it stands for is executed, help is given, and what was done is saved. A line that sources a file or reloads
-// is one of such a file: it is refused. Whether the command was accepted; none where the line ends the talk.
-fn answer_person<O: Opener, W: Out, E: Out>(
-    moment: &mut Moment,
-    line: &[u8],
-    files: &mut O,
-    out: &mut W,
-    errors: &mut E,
-) -> Result<Option<Told>, ToolFault>
-    requires { W.failed out.old < 2 ^ 64 - 1 }
-    ensures quit { IfOk result (λ answer. (answer ≡ None) ↔ (is_quit Talker.Person line.now ≡ true)) }
-    ensures told { IfOk result (λ answer. IfSome answer (λ told. told ≡ (replies moment.old.session (meant moment.old.session Talker.Person moment.old.recall line.now)).told)) }
-    ensures written { OnOk result (Appends (W.told out.old) (W.told out.new) (replies moment.old.session (meant moment.old.session Talker.Person moment.old.recall line.now)).bytes) }
-    ensures session { OnOk result (moment.new.session ≡ after_lines moment.old.session (meant moment.old.session Talker.Person moment.old.recall line.now)) }
-    ensures recall { OnOk result (moment.new.recall ≡ recalled moment.old.session Talker.Person moment.old.recall line.now) }
-    ensures origin { moment.new.origin ≡ moment.old.origin }
-    ensures saved { OnOk result (O.saved files.new ≡ noted (O.saved files.old) (saves_of moment.old.origin Talker.Person moment.old.recall line.now)) }
-    ensures unasked { O.asked files.new ≡ O.asked files.old }
-    ensures held { O.holds files.new ≡ O.holds files.old }
-    ensures begun { AppendsFront (W.told out.old) (W.told out.new) (replies moment.old.session (meant moment.old.session Talker.Person moment.old.recall line.now)).bytes }
-    ensures write { CountsFailure (result ≡ Err ToolFault.Write) (W.failed out.old) (W.failed out.new) }
-    ensures only { IfErr result IsMemoryOrWrite }
-{
-    let (session, recall) = (&mut moment.session, &mut moment.recall);
-    let typed = recall.line(session, line)?;
-    match kind_of(line) {
-        Line::Quit => return Ok(None),
-        Line::Command => {
-            let told = answer_command(session, recall, &typed, out, errors)?;
-            return Ok(Some(told));
-        }
-        Line::Help => help(&typed, errors),
-        Line::Listing => list(recall, session, moment.origin.source(), &typed, errors)?,
-        Line::Watch => recall.watch(session, &typed, errors)?,
-        Line::Delete => recall.delete(),
-        Line::Display => recall.display(session, &typed, errors)?,
-        Line::Undisplay => recall.undisplay(),
-        Line::Save => recall.save(&moment.origin, line, files, errors)?,
-        Line::Source => refuse_in_file("source", errors),
-        Line::Reload => refuse_in_file("reload", errors),
-    }
-    recall.repeat_nothing();
-    Ok(Some(Told::Accepted))
-}
-
-/// One line: the commands that it stands for are executed, and a person is given help. Whether each was accepted; none where the line ends the talk.
+/// One line: the command that it stands for is executed; a person is given help, and what was done
+/// is saved. A line that sources a file or reloads is one of such a file: it is refused.
 pub(crate) fn answer_line<O: Opener, W: Out, E: Out>(
     moment: &mut Moment,
     talker: Talker,
@@ -148,10 +106,10 @@ pub(crate) fn answer_line<O: Opener, W: Out, E: Out>(
     files: &mut O,
     out: &mut W,
     errors: &mut E,
-) -> Result<Option<Told>, ToolFault>
+) -> Result<Heard, ToolFault>
     requires { W.failed out.old < 2 ^ 64 - 1 }
-    ensures quit { IfOk result (λ answer. (answer ≡ None) ↔ (is_quit talker line.now ≡ true)) }
-    ensures told { IfOk result (λ answer. IfSome answer (λ told. told ≡ (replies moment.old.session (meant moment.old.session talker moment.old.recall line.now)).told)) }
+    ensures over { IfOk result (λ heard. heard.is_over ≡ is_quit talker line.now) }
+    ensures told { IfOk result (λ heard. heard.told ≡ (replies moment.old.session (meant moment.old.session talker moment.old.recall line.now)).told) }
     ensures written { OnOk result (Appends (W.told out.old) (W.told out.new) (replies moment.old.session (meant moment.old.session talker moment.old.recall line.now)).bytes) }
     ensures session { OnOk result (moment.new.session ≡ after_lines moment.old.session (meant moment.old.session talker moment.old.recall line.now)) }
     ensures recall { OnOk result (moment.new.recall ≡ recalled moment.old.session talker moment.old.recall line.now) }
@@ -168,8 +126,45 @@ pub(crate) fn answer_line<O: Opener, W: Out, E: Out>(
     match talker {
         Talker::Program => {
             let told = command(&mut moment.session, line, out)?;
-            Ok(Some(told))
+            return Ok(Heard {
+                told,
+                is_over: false,
+            });
         }
-        Talker::Person => answer_person(moment, line, files, out, errors),
+        Talker::Person => {}
     }
+    let (session, recall) = (&mut moment.session, &mut moment.recall);
+    let typed = recall.line(session, line)?;
+    match kind_of(line) {
+        Line::Quit => {
+            return Ok(Heard {
+                told: Told::Accepted,
+                is_over: true,
+            });
+        }
+        Line::Command => {
+            let told = answer_command(session, recall, &typed, out, errors)?;
+            return Ok(Heard {
+                told,
+                is_over: false,
+            });
+        }
+        Line::Help => help(&typed, errors),
+        Line::Listing => list(recall, session, moment.origin.source(), &typed, errors)?,
+        Line::Watch => recall.watch(session, &typed, errors)?,
+        Line::Delete => recall.delete(),
+        Line::Display => recall.display(session, &typed, errors)?,
+        Line::Undisplay => recall.undisplay(),
+        Line::Save => {
+            let (alloc, origin) = (recall.allocator(), &moment.origin);
+            save(alloc, origin, recall.done(), line, files, errors)?;
+        }
+        Line::Source => refuse_in_file("source", errors),
+        Line::Reload => refuse_in_file("reload", errors),
+    }
+    recall.repeat_nothing();
+    Ok(Heard {
+        told: Told::Accepted,
+        is_over: false,
+    })
 }

@@ -56,23 +56,13 @@ pub(crate) fn greet<E: Out>(moment: &Moment, talker: Talker, errors: &mut E)
     }
 }
 
-/// Prompts a person for a line.
-pub(crate) fn prompt<E: Out>(talker: Talker, errors: &mut E)
+/// Prompts a person for a line; or ends the line of the prompt, if the input is over.
+pub(crate) fn prompt<E: Out>(talker: Talker, is_over: bool, errors: &mut E)
     ensures { talker ≡ Talker.Program → errors.new ≡ errors.old }
 {
     match talker {
         Talker::Program => {}
-        Talker::Person => say(PROMPT, errors),
-    }
-}
-
-/// The line of the prompt is ended, where the input is over.
-pub(crate) fn end_prompt<E: Out>(talker: Talker, errors: &mut E)
-    ensures { talker ≡ Talker.Program → errors.new ≡ errors.old }
-{
-    match talker {
-        Talker::Program => {}
-        Talker::Person => say("\n", errors),
+        Talker::Person => say(if is_over { "\n" } else { PROMPT }, errors),
     }
 }
 

@@ -9,7 +9,7 @@ ghost use Rattle.mix_run.specs.Hearing.{Answered};
 ghost use Rattle.mix_run.specs.Opening.{Files, noted};
 ghost use Rattle.mix_run.specs.Saves.{saves};
 ghost use Rattle.mix_run.specs.Sources.{Knows};
-ghost use Rattle.mix_run.specs.Stretch.{in_session, talk_of, typed_line};
+ghost use Rattle.mix_run.specs.Stretch.{talk_of, typed_line};
 ghost use Rattle.mix_stream.specs.Stream.{AppendsFront, CountsFailure};
 
 use crate::fault::ToolFault;
@@ -59,57 +59,20 @@ fn answer_lines<O: Opener, W: Out, E: Out>(
     let mut rest = text;
     while !rest.is_empty() {
         let (line, after) = split_line(rest);
-        match answer_line(moment, talker, line, files, out, errors)? {
-            None => {
-                return Ok(Heard {
-                    told,
-                    is_over: true,
-                });
-            }
-            Some(next) => told = told.and(next),
+        let now = answer_line(moment, talker, line, files, out, errors)?;
+        if now.is_over {
+            return Ok(Heard {
+                told,
+                is_over: true,
+            });
         }
+        told = told.and(now.told);
         rest = after;
     }
     Ok(Heard {
         told,
         is_over: false,
     })
-}
-
-// A line that stands for itself.
-fn answer_itself<O: Opener, W: Out, E: Out>(
-    moment: &mut Moment,
-    talker: Talker,
-    line: &[u8],
-    files: &mut O,
-    out: &mut W,
-    errors: &mut E,
-) -> Result<Heard, ToolFault>
-    requires { W.failed out.old < 2 ^ 64 - 1 }
-    ensures answered { IfOk result (λ now. Answered (in_session moment.old talker (line.now ∷ []))
-        moment.new now.told now.is_over (O.saved files.old) (O.saved files.new) (W.told out.old) (W.told out.new)) }
-    ensures begun { AppendsFront (W.told out.old) (W.told out.new) (answers moment.old.session talker moment.old.recall (line.now ∷ [])).bytes }
-    ensures unasked { O.asked files.new ≡ O.asked files.old }
-    ensures held { O.holds files.new ≡ O.holds files.old }
-    ensures write { CountsFailure (result ≡ Err ToolFault.Write) (W.failed out.old) (W.failed out.new) }
-    ensures only { IfErr result IsMemoryOrWrite }
-    ensures quiet { talker ≡ Talker.Program → errors.new ≡ errors.old }
-    ensures untouched { talker ≡ Talker.Program → files.new ≡ files.old }
-{
-    match answer_line(moment, talker, line, files, out, errors)? {
-        None => {
-            Ok(Heard {
-                told: Told::Accepted,
-                is_over: true,
-            })
-        }
-        Some(told) => {
-            Ok(Heard {
-                told,
-                is_over: false,
-            })
-        }
-    }
 }
 
 // A typed line: the source is reloaded, or the lines that it stands for are answered.
@@ -143,7 +106,7 @@ fn answer_typed<O: Opener, W: Out, E: Out>(
     }
     match text_sourced(moment.recall.allocator(), talker, line, files, errors)? {
         Some(text) => answer_lines(moment, talker, &text, files, out, errors),
-        None => answer_itself(moment, talker, line, files, out, errors),
+        None => answer_line(moment, talker, line, files, out, errors),
     }
 }
 
@@ -181,7 +144,7 @@ pub(super) fn answer_text<O: Opener, W: Out, E: Out>(
                 is_over: true,
             });
         }
-        prompt(talker, errors);
+        prompt(talker, false, errors);
         rest = after;
     }
     Ok(Heard {

@@ -1,23 +1,16 @@
 //! What a talk recalls of a person's lines, and what it reads them with.
 
 ghost use Rattle.std.specs.Prelude.{◌≡◌, [], IfOk, OnOk};
-ghost use Rattle.mix_run.specs.Recall.{nothing, read_as, recalled_after, recalled_display, recalled_watch, watched_by, watched_more, with_done};
+ghost use Rattle.mix_run.specs.Recall.{nothing, read_as, recalled_after, recalled_display, recalled_watch, watched_more};
 ghost use Rattle.mix_session.specs.Session.{request_in};
-ghost use Rattle.mix_lines.specs.Lines.{words};
-ghost use Rattle.mix_run.specs.Bundle.{bundle_of};
-ghost use Rattle.mix_run.specs.Opening.{noted};
-ghost use Rattle.mix_person.specs.Person.{name_in};
-ghost use Rattle.mix_run.specs.Saves.{saves_under};
 
 mod points;
 
-use crate::bundle::{Origin, copy_of};
-use crate::opener::Opener;
+use crate::bundle::copy_of;
 use crate::talk::aside::{After, say, say_bytes, tell_shown};
 use crate::talk::finish::finished;
 use crate::talk::listing::Listed;
 use crate::talk::points::can_wait;
-use crate::talk::save::save;
 use crate::talk::watched::{condition_watched, put_watched};
 use mix_person::{form_of, person_line, shows_part};
 use mix_refused::Memory;
@@ -121,25 +114,13 @@ impl Recall {
         ensures { OnOk result (self.new ≡ recalled_watch session.now (request_in session.now line.now) line.now self.old) }
     {
         match session.read(line) {
-            Ok(request) => self.watch_request(session, request, line, errors)?,
+            Ok(Request::RunUntil(..)) => {
+                let mut watch = copy_of(self.alloc, &self.watch)?;
+                put_watched(&mut watch, line)?;
+                self.watch_more(session, watch, errors)?;
+            }
+            Ok(_) => {}
             Err(_) => say(form_of(Some(b"watch")), errors),
-        }
-        Ok(())
-    }
-
-    fn watch_request<E: Out>(
-        &mut self,
-        session: &Session,
-        request: Request,
-        line: &[u8],
-        errors: &mut E,
-    ) -> Result<(), Memory>
-        ensures { OnOk result (self.new ≡ watched_by session.now request line.now self.old) }
-    {
-        if let Request::RunUntil(..) = request {
-            let mut watch = copy_of(self.alloc, &self.watch)?;
-            put_watched(&mut watch, line)?;
-            self.watch_more(session, watch, errors)?;
         }
         Ok(())
     }
@@ -212,37 +193,16 @@ impl Recall {
         &self.done
     }
 
-    // A line more of the script of what was done.
-    fn keep_done(&mut self, line: &[u8]) -> Result<(), Memory>
-        ensures { OnOk result (self.new ≡ with_done line.now self.old) }
-    {
-        self.done.extend_from_slice(line)?;
-        self.done.extend_from_slice(b"\n")?;
-        Ok(())
-    }
-
-    /// The bundle of what was done is saved in the file that a person's line names.
-    pub(crate) fn save<O: Opener, E: Out>(
-        &self,
-        origin: &Origin,
-        line: &[u8],
-        files: &mut O,
-        errors: &mut E,
-    ) -> Result<(), Memory>
-        ensures saved { OnOk result (O.saved files.new ≡ noted (O.saved files.old) (saves_under (bundle_of origin.now self.now.done) (name_in (words line.now)))) }
-        ensures unasked { O.asked files.new ≡ O.asked files.old }
-        ensures held { O.holds files.new ≡ O.holds files.old }
-    {
-        save(self.alloc, origin, &self.done, line, files, errors)
-    }
-
     /// A line of a script was executed, and this follows it.
     pub(crate) fn keep(&mut self, after: After, line: &[u8]) -> Result<(), Memory>
         ensures { OnOk result (self.new ≡ recalled_after after line.now self.old) }
     {
         match after {
             After::Nothing | After::Refused => {}
-            After::Changed | After::Stop | After::Done => self.keep_done(line)?,
+            After::Changed | After::Stop | After::Done => {
+                self.done.extend_from_slice(line)?;
+                self.done.extend_from_slice(b"\n")?;
+            }
         }
         Ok(())
     }

@@ -1,6 +1,6 @@
 //! What a person reloads: the file of the source is read again, and in the machine that it loads all is done again that was done so far.
 
-ghost use Rattle.std.specs.Prelude.{◌≡◌, Ok, List, ℕ, OnErr, OnOk, Some};
+ghost use Rattle.std.specs.Prelude.{◌≡◌, OnErr, OnOk, Some};
 ghost use Rattle.mix_lines.specs.Lines.{lines};
 ghost use Rattle.mixal_asm.specs.Assembly.{assembly};
 ghost use Rattle.mix_session.specs.Command.{after};
@@ -24,7 +24,7 @@ use mix_person::{Line, kind_of};
 use mix_refused::{Memory, Refused};
 use mix_session::{Answer, Session, Told};
 use mix_stream::Out;
-use mixal_asm::{Program, assemble};
+use mixal_asm::assemble;
 
 const RELOADED: &str = "reloaded: ";
 
@@ -78,14 +78,11 @@ fn redo<E: Out>(session: &mut Session, script: &[u8], errors: &mut E) -> Result<
     Ok(())
 }
 
-// The program of a source takes the place of the one before it. A person is told what comes next, and what is displayed, as after each stop.
-fn reload_program<E: Out>(
-    moment: &mut Moment,
-    program: Program,
-    source: &[u8],
-    errors: &mut E,
-) -> Result<(), Memory>
-    ensures reloaded { OnOk result (moment.new ≡ reloaded_as source.now (Ok program) moment.old) }
+// A source that was read is assembled, and its program takes the place of the one before it. A
+// person is told what comes next, and what is displayed, as after each stop; or why the source is
+// refused.
+fn reload_source<E: Out>(moment: &mut Moment, source: &[u8], errors: &mut E) -> Result<(), Memory>
+    ensures reloaded { OnOk result (moment.new ≡ reloaded_as source.now (assembly source.now) moment.old) }
     ensures kept { OnErr result (moment.new ≡ moment.old) }
 {
     let Moment {
@@ -94,6 +91,14 @@ fn reload_program<E: Out>(
         origin,
     } = moment;
     let alloc = recall.allocator();
+    let program = match assemble(alloc, source) {
+        Ok(program) => program,
+        Err(Refused::Memory) => return Err(Memory),
+        Err(Refused::Fault(_)) => {
+            tell_report(alloc, origin.name(), source, errors);
+            return Ok(());
+        }
+    };
     let units = match Units::read(alloc, origin.deck()) {
         Ok(units) => units,
         Err(Refused::Memory) => return Err(Memory),
@@ -109,22 +114,6 @@ fn reload_program<E: Out>(
     tell(After::Stop, Told::Accepted, session, b"", errors);
     recall.tell_displays(After::Stop, session, errors);
     Ok(())
-}
-
-// A source that was read is assembled; a person is told why it is refused.
-fn reload_source<E: Out>(moment: &mut Moment, source: &[u8], errors: &mut E) -> Result<(), Memory>
-    ensures reloaded { OnOk result (moment.new ≡ reloaded_as source.now (assembly source.now) moment.old) }
-    ensures kept { OnErr result (moment.new ≡ moment.old) }
-{
-    let alloc = moment.recall.allocator();
-    match assemble(alloc, source) {
-        Ok(program) => reload_program(moment, program, source, errors),
-        Err(Refused::Memory) => Err(Memory),
-        Err(Refused::Fault(_)) => {
-            tell_report(alloc, moment.origin.name(), source, errors);
-            Ok(())
-        }
-    }
 }
 
 /// Reads the source again, and does in the machine that it loads what was done so far; of a bundle the deck is not read again. If it can't be read or

@@ -1,6 +1,6 @@
 //! What a person saves: in the file that a line names, the bundle of what was done so far.
 
-ghost use Rattle.std.specs.Prelude.{◌≡◌, OnOk, Some};
+ghost use Rattle.std.specs.Prelude.{◌≡◌, OnOk};
 ghost use Rattle.mix_lines.specs.Lines.{words};
 ghost use Rattle.mix_run.specs.Bundle.{bundle_of};
 ghost use Rattle.mix_run.specs.Opening.{noted};
@@ -27,31 +27,8 @@ fn tell_unsaved<E: Out>(unsaved: Unsaved, name: &[u8], errors: &mut E) {
     }
 }
 
-// A bundle is saved under a name, unless it is longer than a bundle may be. A person is told so, or why it is not.
-fn save_under<O: Opener, E: Out>(
-    alloc: Global,
-    bundle: &[u8],
-    name: &[u8],
-    files: &mut O,
-    errors: &mut E,
-) -> Result<(), Memory>
-    ensures saved { O.saved files.new ≡ noted (O.saved files.old) (saves_under bundle.now (Some name.now)) }
-    ensures unasked { O.asked files.new ≡ O.asked files.old }
-    ensures held { O.holds files.new ≡ O.holds files.old }
-{
-    if bundle.len() > MAX_BUNDLE_BYTES {
-        tell_too_long(name, errors);
-        return Ok(());
-    }
-    match files.save(alloc, name, bundle) {
-        Ok(()) => tell_file(SAVED, name, "", errors),
-        Err(Refused::Fault(unsaved)) => tell_unsaved(unsaved, name, errors),
-        Err(Refused::Memory) => return Err(Memory),
-    }
-    Ok(())
-}
-
-/// Saves the bundle of what was done in the file that a person's line names; of another line a person is told what it takes.
+/// Saves the bundle of what was done in the file that a person's line names, unless it is longer
+/// than a bundle may be. A person is told so, or why not; of another line, what it takes.
 pub(crate) fn save<O: Opener, E: Out>(
     alloc: Global,
     origin: &Origin,
@@ -64,14 +41,22 @@ pub(crate) fn save<O: Opener, E: Out>(
     ensures unasked { O.asked files.new ≡ O.asked files.old }
     ensures held { O.holds files.new ≡ O.holds files.old }
 {
-    match name_in(line) {
+    let name = match name_in(line) {
         None => {
             say(form_of(Some(b"save")), errors);
-            Ok(())
+            return Ok(());
         }
-        Some(name) => {
-            let bundle = bundle_of(alloc, origin, done)?;
-            save_under(alloc, &bundle, name, files, errors)
-        }
+        Some(name) => name,
+    };
+    let bundle = bundle_of(alloc, origin, done)?;
+    if bundle.len() > MAX_BUNDLE_BYTES {
+        tell_too_long(name, errors);
+        return Ok(());
     }
+    match files.save(alloc, name, &bundle) {
+        Ok(()) => tell_file(SAVED, name, "", errors),
+        Err(Refused::Fault(unsaved)) => tell_unsaved(unsaved, name, errors),
+        Err(Refused::Memory) => return Err(Memory),
+    }
+    Ok(())
 }

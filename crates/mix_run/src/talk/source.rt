@@ -1,6 +1,6 @@
 //! What a person sources: a line names a file, and stands for the lines of it.
 
-ghost use Rattle.std.specs.Prelude.{◌≡◌, ℕ, List, Some, IfOk, IfSome, is_some};
+ghost use Rattle.std.specs.Prelude.{◌≡◌, Some, IfOk, IfSome, is_some};
 ghost use Rattle.mix_lines.specs.Lines.{lines, words};
 ghost use Rattle.mix_run.specs.Opening.{Files};
 ghost use Rattle.mix_person.specs.Person.{name_in};
@@ -33,18 +33,26 @@ pub(crate) fn tell_unread<E: Out>(unread: Unread, name: &[u8], errors: &mut E) {
     }
 }
 
-// The text of a file, unless it is longer than a script may be or can't be read; then it is empty, and a person is told why.
-fn text_under<O: Opener, E: Out>(
+// The text of the file that a line names. It is empty if the file is longer than a script may be or
+// can't be read, or if the line names none: then a person is told why.
+fn text_named<O: Opener, E: Out>(
     alloc: Global,
-    name: &[u8],
+    line: &[u8],
     files: &mut O,
     errors: &mut E,
 ) -> Result<Vec<u8>, Memory>
-    ensures text { (all : Files) → O.holds files.old ≡ Some all → IfOk result (λ text. lines text.items ≡ lines_under all (Some name.now)) }
+    ensures text { (all : Files) → O.holds files.old ≡ Some all → IfOk result (λ text. lines text.items ≡ lines_under all (name_in (words line.now))) }
     ensures held { O.holds files.new ≡ O.holds files.old }
     ensures unasked { O.asked files.new ≡ O.asked files.old }
     ensures unsaved { O.saved files.new ≡ O.saved files.old }
 {
+    let name = match name_in(line) {
+        None => {
+            say(form_of(Some(b"source")), errors);
+            return Ok(Vec::new(alloc));
+        }
+        Some(name) => name,
+    };
     match files.read(alloc, name, MAX_SCRIPT_BYTES + 1) {
         Ok(text) => {
             if text.len() > MAX_SCRIPT_BYTES {
@@ -59,27 +67,6 @@ fn text_under<O: Opener, E: Out>(
             Ok(Vec::new(alloc))
         }
         Err(Refused::Memory) => Err(Memory),
-    }
-}
-
-// The text of the file that a line names; of a line that names none a person is told what it takes.
-fn text_named<O: Opener, E: Out>(
-    alloc: Global,
-    line: &[u8],
-    files: &mut O,
-    errors: &mut E,
-) -> Result<Vec<u8>, Memory>
-    ensures text { (all : Files) → O.holds files.old ≡ Some all → IfOk result (λ text. lines text.items ≡ lines_under all (name_in (words line.now))) }
-    ensures held { O.holds files.new ≡ O.holds files.old }
-    ensures unasked { O.asked files.new ≡ O.asked files.old }
-    ensures unsaved { O.saved files.new ≡ O.saved files.old }
-{
-    match name_in(line) {
-        None => {
-            say(form_of(Some(b"source")), errors);
-            Ok(Vec::new(alloc))
-        }
-        Some(name) => text_under(alloc, name, files, errors),
     }
 }
 

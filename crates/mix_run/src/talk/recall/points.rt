@@ -29,26 +29,6 @@ impl Recall {
         &self.points
     }
 
-    // One point more, if a run can wait for them all; a person is told so, or that it cannot.
-    fn set_point<E: Out>(
-        &mut self,
-        session: &Session,
-        typed: &[u8],
-        place: Place,
-        errors: &mut E,
-    ) -> Result<(), Memory>
-        ensures { OnOk result (self.new ≡ recalled_asked (point.Set place) session.now typed.now self.old) }
-    {
-        match with_point_if(self.alloc, session, typed, place, &self.watch, &self.points)? {
-            Some(points) => {
-                self.points = points;
-                say("ok\n", errors);
-            }
-            None => say(MOST, errors),
-        }
-        Ok(())
-    }
-
     /// What is asked of the points is done: one that a run cannot wait for with the others is not set, and a person is told so.
     pub(crate) fn change_points<E: Out>(
         &mut self,
@@ -61,7 +41,15 @@ impl Recall {
         ensures { OnOk result (self.new ≡ recalled_asked asked session.now typed.now self.old) }
     {
         match asked {
-            Point::Set(place) => return self.set_point(session, typed, place, errors),
+            Point::Set(place) => {
+                match with_point_if(self.alloc, session, typed, place, &self.watch, &self.points)? {
+                    Some(points) => self.points = points,
+                    None => {
+                        say(MOST, errors);
+                        return Ok(());
+                    }
+                }
+            }
             Point::Clear(place) => {
                 self.points = pieces(self.alloc, session, &Some(place), &self.points)?
             }

@@ -1,4 +1,4 @@
--- The run of a plan is that of its texts; a client is served.
+-- The run of a plan is that of its texts.
 use Rattle.std.proofs.Common.{List, None, ℕ, ap, inl, refl, subst, sym, ◌∙◌}
 use Rattle.mix_tool.specs.Ending.{Creates}
 use Rattle.mix_tool.specs.Plan.{creates_of}
@@ -42,15 +42,3 @@ returns-in-Run-clause-created g c names e =
 
 pub returns-in-Run-clause-saved : goal.returns-in-Run-clause-saved
 returns-in-Run-clause-saved g c given holds = rw c.in-Run.is (c.run_texts.ensures.saved given holds)
-
-pub returns-in-Dap-clause-served : goal.returns-in-Dap-clause-served
-returns-in-Dap-clause-served g c hears = c.serve_from.ensures.done
-
-pub returns-in-Dap-clause-broken : goal.returns-in-Dap-clause-broken
-returns-in-Dap-clause-broken g c hears = c.serve_from.ensures.broken
-
-pub returns-in-Lsp-clause-spoken : goal.returns-in-Lsp-clause-spoken
-returns-in-Lsp-clause-spoken g c hears = c.serve.ensures.served
-
-pub returns-in-Lsp-clause-speechless : goal.returns-in-Lsp-clause-speechless
-returns-in-Lsp-clause-speechless g c hears = c.serve.ensures.broken

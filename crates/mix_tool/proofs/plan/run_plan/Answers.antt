@@ -2,7 +2,7 @@
 use Rattle.std.proofs.Common.{◌∙◌, Some, ap, refl, subst}
 use Rattle.mix_run.specs.Opening.{Missing, missing_of}
 use Rattle.mix_tool.specs.Plan.{FileNames, HoldTexts, RunsOn, files_of, given_of, in_order, names_in, names_of, seen, sources_of}
-use Rattle.mix_tool.proofs.CheckLemmas.{adapter-hears, client-unnamed, done-as, plan-missing, plan-opened, server-hears}
+use Rattle.mix_tool.proofs.CheckLemmas.{done-as, plan-missing, plan-opened}
 use Rattle.mix_tool.proofs.SavingLemmas.{creates-none, saves-none}
 use Rattle.mix_tool.proofs.plan.run_plan.Goals as goal
 
@@ -41,18 +41,6 @@ returns-in-Err-clause-done g c all e =
     (RunsOn all plan (given_of all (names_of plan)) c.args.streams.now.talker c.tell_not_opened.result before after) c.tell_not_opened.result before after missing.1
     (c.tell_not_opened.ensures.status, refl, refl, c.tell_not_opened.ensures.told)
 
-pub returns-in-Ok-clause-served : goal.returns-in-Ok-clause-served
-returns-in-Ok-clause-served g c = c.run_on.ensures.served
-
-pub returns-in-Err-clause-served : goal.returns-in-Err-clause-served
-returns-in-Err-clause-served g c is = absurd (c.in-Err.ensures.named (ap in_order c.names_in.ensures ∙ client-unnamed c.args.plan.now (adapter-hears c.args.plan.now is)))
-
-pub returns-in-Ok-clause-broken : goal.returns-in-Ok-clause-broken
-returns-in-Ok-clause-broken g c = c.run_on.ensures.broken
-
-pub returns-in-Err-clause-broken : goal.returns-in-Err-clause-broken
-returns-in-Err-clause-broken g c is = absurd (c.in-Err.ensures.named (ap in_order c.names_in.ensures ∙ client-unnamed c.args.plan.now (adapter-hears c.args.plan.now is)))
-
 pub returns-in-Ok-clause-created : goal.returns-in-Ok-clause-created
 returns-in-Ok-clause-created g c names e = rw c.open_texts.ensures.unsaved.0 at (c.run_on.ensures.created names e)
 
@@ -67,17 +55,17 @@ returns-in-Ok-clause-saved g c all e =
 pub returns-in-Err-clause-saved : goal.returns-in-Err-clause-saved
 returns-in-Err-clause-saved g c all e = saves-none c.args.plan.now _ _ _ _ c.tell_not_opened.ensures.status c.open_texts.ensures.unsaved.1
 
-pub returns-in-Err-clause-spoken : goal.returns-in-Err-clause-spoken
-returns-in-Err-clause-spoken g c is = absurd (c.in-Err.ensures.named (ap in_order c.names_in.ensures ∙ client-unnamed c.args.plan.now (server-hears c.args.plan.now is)))
-
-pub returns-in-Err-clause-speechless : goal.returns-in-Err-clause-speechless
-returns-in-Err-clause-speechless g c is = absurd (c.in-Err.ensures.named (ap in_order c.names_in.ensures ∙ client-unnamed c.args.plan.now (server-hears c.args.plan.now is)))
-
-pub returns-in-Ok-clause-spoken : goal.returns-in-Ok-clause-spoken
-returns-in-Ok-clause-spoken g c = c.run_on.ensures.spoken
-
-pub returns-in-Ok-clause-speechless : goal.returns-in-Ok-clause-speechless
-returns-in-Ok-clause-speechless g c = c.run_on.ensures.speechless
-
 pub returns-in-Ok-clause-all_saved : goal.returns-in-Ok-clause-all_saved
 returns-in-Ok-clause-all_saved g c names e well = c.run_on.ensures.all_saved names e well ∙ c.open_texts.ensures.unsaved.2
+
+pub returns-in-Dap-clause-served : goal.returns-in-Dap-clause-served
+returns-in-Dap-clause-served g c hears = c.serve_from.ensures.done
+
+pub returns-in-Dap-clause-broken : goal.returns-in-Dap-clause-broken
+returns-in-Dap-clause-broken g c hears = c.serve_from.ensures.broken
+
+pub returns-in-Lsp-clause-spoken : goal.returns-in-Lsp-clause-spoken
+returns-in-Lsp-clause-spoken g c hears = c.serve.ensures.served
+
+pub returns-in-Lsp-clause-speechless : goal.returns-in-Lsp-clause-speechless
+returns-in-Lsp-clause-speechless g c hears = c.serve.ensures.broken

@@ -1,9 +1,7 @@
 -- One name after the other, up to the first that can't be opened.
 use Rattle.std.proofs.Common.{◌∙◌}
 use Rattle.std.proofs.lemmas.Result.{err_from_is_err_and}
-use Rattle.mix_tool.specs.Plan.{names_in}
-use Rattle.mix_tool.proofs.CheckLemmas.{script-named, typewriter-named}
-use Rattle.mix_tool.proofs.OpeningLemmas.{named-first, named-later, opens-end, opens-then}
+use Rattle.mix_tool.proofs.OpeningLemmas.{opens-end, opens-then}
 use Rattle.mix_tool.proofs.texts.open_texts.Goals as goal
 
 pub returns-in_err-source-clause-missing : goal.returns-in_err-source-clause-missing
@@ -55,28 +53,3 @@ returns-clause-opened g c all e =
     opens-then all _ _ _ _ _ _ (c.in_ok-source.ensures.opened all e) (opens-then all _ _ _ _ _ _ (c.in_ok-deck.ensures.opened all second)
     (opens-then all _ _ _ _ _ _ (c.in_ok-cards.ensures.opened all third) (opens-then all _ _ _ _ _ _ (c.in_ok-typewriter.ensures.opened all fourth)
     (c.in_ok-script.ensures.opened all last))))
-
-pub returns-in_err-source-clause-named : goal.returns-in_err-source-clause-named
-returns-in_err-source-clause-named g c =
-    let p = err_from_is_err_and c.from_residual.result c.from_residual.ensures.1 in
-    rw p.1 (named-first _ _ c.in_err-source.ensures.named)
-
-pub returns-in_err-deck-clause-named : goal.returns-in_err-deck-clause-named
-returns-in_err-deck-clause-named g c =
-    let p = err_from_is_err_and c.from_residual-in_err-deck.result c.from_residual-in_err-deck.ensures.1 in
-    rw p.1 (named-later _ _ (named-first _ _ c.in_err-deck.ensures.named))
-
-pub returns-in_err-cards-clause-named : goal.returns-in_err-cards-clause-named
-returns-in_err-cards-clause-named g c =
-    let p = err_from_is_err_and c.from_residual-in_err-cards.result c.from_residual-in_err-cards.ensures.1 in
-    rw p.1 (named-later _ _ (named-later _ _ (named-first _ _ c.in_err-cards.ensures.named)))
-
-pub returns-in_err-typewriter-clause-named : goal.returns-in_err-typewriter-clause-named
-returns-in_err-typewriter-clause-named g c =
-    let p = err_from_is_err_and c.from_residual-in_err-typewriter.result c.from_residual-in_err-typewriter.ensures.1 in
-    rw p.1 (typewriter-named (names_in c.args.names) c.in_err-typewriter.ensures.named)
-
-pub returns-in_err-script-clause-named : goal.returns-in_err-script-clause-named
-returns-in_err-script-clause-named g c =
-    let p = err_from_is_err_and c.from_residual-in_err-script.result c.from_residual-in_err-script.ensures.1 in
-    rw p.1 (script-named (names_in c.args.names) c.in_err-script.ensures.named)

@@ -1,32 +1,32 @@
 -- One line more: what has been written and what is left to write are the replies to all.
 use Rattle.std.proofs.Common.{sym, ◌∙◌}
 use Rattle.mix_run.proofs.RunLemmas.{nil-from_length}
-use Rattle.mix_run.proofs.TalkLemmas.{after-one, all-answered, all-done, all-recalled, all-reported, begun-one, never-over, not_so, over-one, recall-one, all-saved, saved-end, saved-one, told-one, written-one}
+use Rattle.mix_run.proofs.TalkLemmas.{after-one, all-answered, all-done, all-recalled, all-reported, begun-one, never-over, over-one, recall-one, all-saved, saved-end, saved-one, told-one, written-one}
 use Rattle.mix_run.proofs.Written.{AppendsFront-all}
 use Rattle.mix_run.proofs.talk.heard.answer_lines.Goals as goal
 
-pub returns-in_err-answer_line-clause-begun : goal.returns-in_err-answer_line-clause-begun
-returns-in_err-answer_line-clause-begun g c =
+pub returns-in_err-now-clause-begun : goal.returns-in_err-now-clause-begun
+returns-in_err-now-clause-begun g c =
     begun-one c.loop-rest.moment.session c.args.talker c.loop-rest.moment.recall _ _ _ c.split_line.ensures.lines _ _ _ _ c.loop-rest.invariant.written
     c.answer_line.ensures.begun
 
-pub returns-in-None-clause-begun : goal.returns-in-None-clause-begun
-returns-in-None-clause-begun g c =
+pub returns-then-now-clause-begun : goal.returns-then-now-clause-begun
+returns-then-now-clause-begun g c =
     begun-one c.loop-rest.moment.session c.args.talker c.loop-rest.moment.recall _ _ _ c.split_line.ensures.lines _ _ _ _ c.loop-rest.invariant.written
     c.answer_line.ensures.begun
 
 pub loop-rest-preserved : goal.loop-rest-preserved
 loop-rest-preserved g c =
     let split = c.split_line.ensures.lines in
-    let answer = c.in_ok-answer_line.ensures in
-    let goes_on = not_so _ (λ e. let none = answer.quit.1 e in let some = c.in-Some.is in cc) in
+    let answer = c.in_ok-now.ensures in
+    let goes_on = sym answer.over ∙ c.if-now.false in
     let talker = c.args.talker in
     let s = c.loop-rest.moment.session in
     let r = c.loop-rest.moment.recall in
     record {
       written = written-one s talker r _ _ _ split _ _ goes_on answer.session answer.recall _ _ _ _ c.loop-rest.invariant.written answer.written;
       told = rw c.and-told.ensures
-          (told-one s talker r _ _ _ split _ _ goes_on answer.session answer.recall _ _ _ c.loop-rest.invariant.told (rw c.in-Some.is at answer.told));
+          (told-one s talker r _ _ _ split _ _ goes_on answer.session answer.recall _ _ _ c.loop-rest.invariant.told answer.told);
       over = c.loop-rest.invariant.over ∙ over-one s talker r _ _ _ split goes_on;
       session = c.loop-rest.invariant.session ∙ after-one s talker r _ _ _ split _ _ goes_on answer.session answer.recall;
       recall = c.loop-rest.invariant.recall ∙ recall-one s talker r _ _ _ split _ _ goes_on answer.session answer.recall;
@@ -66,10 +66,10 @@ returns-clause-begun g c =
     let none = nil-from_length _ (sym c.loop-rest-test.false ∙ c.is_empty.ensures) in
     AppendsFront-all _ _ _ (all-answered c.loop-rest.moment.session c.args.talker c.loop-rest.moment.recall _ none _ _ _ c.loop-rest.invariant.written)
 
-pub returns-in-None-clause-saved : goal.returns-in-None-clause-saved
-returns-in-None-clause-saved g c =
-    let answer = c.in_ok-answer_line.ensures in
-    let quit = answer.quit.0 cc in
+pub returns-then-now-clause-saved : goal.returns-then-now-clause-saved
+returns-then-now-clause-saved g c =
+    let answer = c.in_ok-now.ensures in
+    let quit = sym answer.over ∙ c.if-now.true in
     saved-end c.loop-rest.moment.session c.args.talker c.loop-rest.moment.recall _ _ _ c.split_line.ensures.lines c.args.moment.now.origin _ _ _ quit c.loop-rest.invariant.saved (rw c.loop-rest.invariant.origin at answer.saved)
 
 pub returns-clause-saved : goal.returns-clause-saved

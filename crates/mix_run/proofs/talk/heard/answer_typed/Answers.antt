@@ -1,7 +1,7 @@
 -- A typed line was answered: the source was reloaded, or the lines that it stands for were answered, those of a file or itself.
 use Rattle.std.proofs.Common.{◌∙◌, ap, sym}
 use Rattle.mix_lines.specs.Lines.{lines}
-use Rattle.mix_run.proofs.HearingLemmas.{Answered-reload, answered-as, answered-lines, begun-as, reloaded-known, sourced-known, stands-itself}
+use Rattle.mix_run.proofs.HearingLemmas.{Answered-reload, answered-as, answered-itself, answered-lines, begun-as, begun-itself, reloaded-known, sourced-known, stands-itself}
 use Rattle.mix_run.proofs.talk.heard.answer_typed.Goals as goal
 
 pub returns-then-is_reload-clause-answered : goal.returns-then-is_reload-clause-answered
@@ -30,11 +30,14 @@ pub returns-in-None-clause-answered : goal.returns-in-None-clause-answered
 returns-in-None-clause-answered g c all known =
     let stays = sym c.is_reload.ensures ∙ c.if-is_reload.false in
     let sources = sym (rw c.in-None.is at c.in_ok-text.ensures.sources) in
-    answered-as _ _ _ _ _ all c.args.moment.now _ c.args.talker c.args.line.now _ c.answer_itself.result stays c.in_ok-text.ensures.unsaved
-    (sym (stands-itself all c.args.talker c.args.line.now sources)) c.answer_itself.ensures.answered
+    let said = c.answer_line.ensures in
+    answered-as _ _ _ _ _ all c.args.moment.now _ c.args.talker c.args.line.now _ c.answer_line.result stays c.in_ok-text.ensures.unsaved
+    (sym (stands-itself all c.args.talker c.args.line.now sources))
+    (answered-itself _ _ _ _ c.args.moment.now _ _ _ c.answer_line.result said.told said.written said.over said.session said.recall said.origin said.saved)
 
 pub returns-in-None-clause-begun : goal.returns-in-None-clause-begun
 returns-in-None-clause-begun g c all known =
     let stays = sym c.is_reload.ensures ∙ c.if-is_reload.false in
     let sources = sym (rw c.in-None.is at c.in_ok-text.ensures.sources) in
-    begun-as all c.args.moment.now c.args.talker c.args.line.now _ _ _ stays (sym (stands-itself all c.args.talker c.args.line.now sources)) c.answer_itself.ensures.begun
+    begun-as all c.args.moment.now c.args.talker c.args.line.now _ _ _ stays (sym (stands-itself all c.args.talker c.args.line.now sources))
+    (begun-itself c.args.moment.now.session c.args.talker c.args.moment.now.recall c.args.line.now _ _ c.answer_line.ensures.begun)

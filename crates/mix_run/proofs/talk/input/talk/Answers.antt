@@ -1,9 +1,10 @@
 -- What is said of the parts that were read holds of the whole text.
-use Rattle.std.proofs.Common.{◌∙◌, ◌<◌, [], ◌++◌, length, take, ap, refl, sym, arith, rules}
+use Rattle.std.proofs.Common.{◌∙◌, ◌<◌, [], ◌++◌, Ok, length, take, ap, refl, sym, arith, rules}
 use Rattle.mix_run.specs.Talk.{is_whole}
 use Rattle.std.proofs.lemmas.List.{length-append}
 use Rattle.std.proofs.KnownBytes.{Consumes-nil, Consumes-trans}
-use Rattle.mix_run.proofs.HearingLemmas.{Hears-lines, Hears-nothing, Hears-on, Hears-then, Talks-begun, end-answered, end-begun, end-known, ended, long-text, more-begun, more-known, too-long, unread}
+use Rattle.mix_run.specs.declared.fault.ToolFault.TheVariants.{Memory}
+use Rattle.mix_run.proofs.HearingLemmas.{Hears-lines, Hears-nothing, Hears-on, Hears-then, Talks-begun, end-answered, end-begun, end-known, ended, long-text, more-begun, more-known, too-long, unread-failed, unread-long}
 use Rattle.mix_run.proofs.TalkLemmas.{all-read, kept-known, left-known, read-more}
 use Rattle.mix_run.proofs.Written.{Appends-nothing}
 use Rattle.mix_run.proofs.talk.input.talk.Goals as goal
@@ -13,7 +14,7 @@ loop-reads-init g c = record {
   heard = ([], Consumes-nil _, omega arith, Hears-nothing _ _ c.args.streams.now.talker _ _ _ refl c.new-pending.ensures.items refl);
   read = refl;
   written = refl;
-  quiet = c.prompt.ensures;
+  quiet = λ e. c.prompt.ensures e ∙ c.greet.ensures e;
   unasked = refl;
   held = refl;
   untouched = λ e. refl;
@@ -27,7 +28,7 @@ returns-in-Ok-answer_text-clause-talks g c all t e knows =
     let whole = all-read _ _ _ t _ _ e so_far.1 c.in-Ok.ensures.bytes.0 (ap (λ n. take n c.read.new.buf) none) (c.in-Ok.ensures.bytes.1 none some) in
     let done = end-answered _ _ c.args.streams.now.talker so_far.0 c.loop-reads.pending.items c.loop-reads.told _ _ so_far.3 c.loop-reads.invariant.held all t knows c.deref.result.now whole c.deref.ensures.value _ _ _ _
     (c.in-Ok-answer_text.ensures.answered all (end-known _ _ c.args.streams.now.talker so_far.0 c.loop-reads.pending.items c.loop-reads.told _ _ so_far.3 c.loop-reads.invariant.held all t knows c.deref.result.now whole c.deref.ensures.value)) in
-    (c.and.ensures ∙ done.told, done.written)
+    (Ok c.and.result, ap (λ s. Ok s) c.status.ensures, (c.and.ensures ∙ done.told, done.written))
 
 pub returns-in-Ok-answer_text-clause-saved : goal.returns-in-Ok-answer_text-clause-saved
 returns-in-Ok-answer_text-clause-saved g c all t e knows =
@@ -53,7 +54,8 @@ pub returns-in-Err-take_lines-clause-talks : goal.returns-in-Err-take_lines-clau
 returns-in-Err-take_lines-clause-talks g c all t e knows =
     let so_far = c.loop-reads.invariant.heard in
     let known = left-known _ _ t _ e (Consumes-trans _ _ _ _ _ so_far.1 c.in-Ok.ensures.bytes.0) in
-    more-begun _ _ c.args.streams.now.talker so_far.0 c.loop-reads.pending.items c.loop-reads.told _ _ so_far.3 c.loop-reads.invariant.held all t knows _ known.0 [] _ known.2 refl refl _ (0, omega arith, Appends-nothing _)
+    Talks-begun all _ c.args.streams.now.talker t Memory _ _ _ tt
+    (more-begun _ _ c.args.streams.now.talker so_far.0 c.loop-reads.pending.items c.loop-reads.told _ _ so_far.3 c.loop-reads.invariant.held all t knows _ known.0 [] _ known.2 refl refl _ (0, omega arith, Appends-nothing _))
 
 pub returns-in-Err-answer_text-clause-write : goal.returns-in-Err-answer_text-clause-write
 returns-in-Err-answer_text-clause-write g c =
@@ -82,7 +84,7 @@ returns-then-heard-clause-talks g c all t e knows =
     let done = ended _ _ _ _ _ _ _ _ _ (Hears-then _ _ _ _ _ _ _ _ _ _ _ _ _ _ c.loop-reads.invariant.held so_far.3
     (Hears-lines _ _ _ _ _ _ _ _ _ _ _ c.in-Ok-take_lines.ensures.parts c.in-Ok-take_lines.ensures.whole c.in-Ok-take_lines.ensures.rest
     c.deref-in-loop-reads.ensures.value c.in-Ok-answer_text-2.ensures.answered)) all t known.0 known.2 knows c.if-heard.true in
-    (c.and-told.ensures ∙ done.told, done.written)
+    (Ok c.and-told.result, ap (λ s. Ok s) c.status-then-heard.ensures, (c.and-told.ensures ∙ done.told, done.written))
 
 pub returns-then-heard-clause-saved : goal.returns-then-heard-clause-saved
 returns-then-heard-clause-saved g c all t e knows =
@@ -97,7 +99,7 @@ pub returns-then-len-gt-MAX_WHOLE_LINE_BYTES-clause-talks : goal.returns-then-le
 returns-then-len-gt-MAX_WHOLE_LINE_BYTES-clause-talks g c all t e knows =
     let so_far = c.loop-reads.invariant.heard in
     let known = left-known _ _ t _ e (Consumes-trans _ _ _ _ _ so_far.1 c.in-Ok.ensures.bytes.0) in
-    unread _ _ _ _ _ _ _ _ _ (Hears-then _ _ _ _ _ _ _ _ _ _ _ _ _ _ c.loop-reads.invariant.held so_far.3
+    unread-long _ _ _ _ _ _ _ _ _ (Hears-then _ _ _ _ _ _ _ _ _ _ _ _ _ _ c.loop-reads.invariant.held so_far.3
     (Hears-lines _ _ _ _ _ _ _ _ _ _ _ c.in-Ok-take_lines.ensures.parts c.in-Ok-take_lines.ensures.whole c.in-Ok-take_lines.ensures.rest
     c.deref-in-loop-reads.ensures.value c.in-Ok-answer_text-2.ensures.answered)) all t known.0 known.2 knows _ known.1
 
@@ -141,14 +143,14 @@ pub returns-in-Err-clause-talks : goal.returns-in-Err-clause-talks
 returns-in-Err-clause-talks g c all t e knows =
     let so_far = c.loop-reads.invariant.heard in
     let known = left-known _ _ t _ e so_far.1 in
-    unread _ _ c.args.streams.now.talker so_far.0 c.loop-reads.pending.items c.loop-reads.told _ _ _ so_far.3 all t
+    unread-failed _ _ c.args.streams.now.talker so_far.0 c.loop-reads.pending.items c.loop-reads.told _ _ _ so_far.3 all t
     known.0 known.2 knows _ (kept-known _ _ known.0 known.1 c.in-Err.ensures.bytes)
 
 pub returns-clause-talks : goal.returns-clause-talks
 returns-clause-talks g c all t e knows =
     let so_far = c.loop-reads.invariant.heard in
     let known = left-known _ _ t _ e so_far.1 in
-    unread _ _ c.args.streams.now.talker so_far.0 c.loop-reads.pending.items c.loop-reads.told _ _ _ so_far.3 all t
+    unread-long _ _ c.args.streams.now.talker so_far.0 c.loop-reads.pending.items c.loop-reads.told _ _ _ so_far.3 all t
     known.0 known.2 knows _ known.1
 
 -- each read gave a byte
