@@ -140,29 +140,20 @@ A run writes one table, and no rows beside it.
 
 A fault and the end of the steps are reported as of any run, and the instruction at fault is not counted. What the units hold is kept, and the map is drawn.
 
-  $ printf ' ENTA 1 [1]
- LDX -1,1 [1]
- END 0
-' >fault.mixal
+  $ printf ' ENTA 1 [1]\n LDX -1,1 [1]\n END 0\n' >fault.mixal
   $ mixrev run fault.mixal --formulas '' </dev/null
   line,count,time,formula,value,fits
   1,1,1,1,1,yes
   2,0,0,1,1,no
   stderr: fault.mixal:2: M5 no such cell at 0001 clock 1
   [3]
-  $ printf ' JMP 0 [N]
- END 0
-' >loop.mixal
+  $ printf ' JMP 0 [N]\n END 0\n' >loop.mixal
   $ mixrev run loop.mixal --formulas '' --steps 5 </dev/null
   line,count,time,formula,value,fits
   1,5,5,N,5,yes
   stderr: loop.mixal:1: steps used up at 0000 clock 5
   [3]
-  $ printf ' IN 100(16) [1]
- OUT 100(20)
- HLT
- END 0
-' >copy.mixal
+  $ printf ' IN 100(16) [1]\n OUT 100(20)\n HLT\n END 0\n' >copy.mixal
   $ printf 'A CARD\nANOTHER\n' | mixrev run copy.mixal --cards - --formulas '' --keep left --svg map
   line,count,time,formula,value,fits
   1,1,1,1,1,yes
