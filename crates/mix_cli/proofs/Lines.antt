@@ -6,14 +6,13 @@ use Rattle.std.proofs.lemmas.List.{length-map}
 use Rattle.clap.specs.Walk.{Text, texts}
 use Rattle.clap.specs.Kinds.{HasKind, IsAmong, Kinds}
 use Rattle.clap.specs.Values.{kind_of}
-use Rattle.std.specs.Option.{option_and_then}
-use Rattle.clap.specs.Words.{fault_of, subcommand_of}
+use Rattle.clap.specs.Words.{fault_of}
 use Rattle.clap.specs.declared.error.Error.{Error}
 use Rattle.clap.specs.declared.error.kind.ErrorKind.TheVariants.{OutOfMemory}
 use Rattle.mix_cli.specs.declared.fault.LineFault.{LineFault}
 use Rattle.mix_cli.specs.declared.fault.LineFault.TheVariants.{Line, Memory, Vain}
 use Rattle.mix_cli.specs.Fault.{IsFaultOf, IsRefusedBy}
-use Rattle.mix_cli.specs.Plan.{line_kinds, line_vain, means_bundle, subcommand_vain}
+use Rattle.mix_cli.specs.Plan.{line_kinds, means_bundle}
 use Rattle.mix_cli.specs.declared.vain.Vain.{Vain as VainOptions}
 use Rattle.mix_cli.specs.Program.{mixrev}
 
@@ -21,11 +20,6 @@ use Rattle.mix_cli.specs.Program.{mixrev}
 pub kinds_are : (terminal : Bool) (words : List (Bor Text)) → means_bundle terminal (length words) ≡ false
     → line_kinds terminal (texts words) ≡ fault_of mixrev (texts words)
 kinds_are terminal words other = rw (length-map words (λ s. s.now), other) refl
-
--- nor any options but those of `run` in clap's words
-pub vain_are : (terminal : Bool) (words : List (Bor Text)) → means_bundle terminal (length words) ≡ false
-    → line_vain terminal (texts words) ≡ option_and_then subcommand_vain (subcommand_of mixrev (texts words))
-vain_are terminal words other = rw (length-map words (λ s. s.now), other) refl
 
 among : (kinds : Kinds) (vain : Option VainOptions) (error : Error) (fault : LineFault) → HasKind kinds error → IsFaultOf error fault
     → IsRefusedBy kinds vain fault

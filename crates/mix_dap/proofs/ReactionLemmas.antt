@@ -1,9 +1,8 @@
 -- A request is answered, or refused, and then goes on.
-use Rattle.std.proofs.Common.{◌≡◌, inr, Bool, true, false, ℕ, List, [], ◌∷◌, ◌++◌, Option, None, Some, Result, Ok, Err, refl, sym, ap, subst, ◌∙◌}
+use Rattle.std.proofs.Common.{◌≡◌, Bool, true, false, ℕ, List, [], ◌∷◌, ◌++◌, Option, None, Some, Result, Ok, Err, refl, sym, ap, subst, ◌∙◌}
 use Rattle.std.specs.Prelude.{IfOk, OnOk, codes, if◌then◌else◌}
 use Rattle.serde_json.specs.Data.{Data}
 use Rattle.mix_word.specs.Word.{WordValue}
-use Rattle.mix_refused.specs.Refused.{IfMemory}
 use Rattle.mix_refused.specs.declared.refused.Refused.{Refused}
 use Rattle.mix_refused.specs.declared.refused.Refused.TheVariants as refused
 use Rattle.mix_session.specs.Command.{Effect, after}
@@ -20,11 +19,11 @@ use Rattle.mix_dap.specs.Console.{line_meant, said_of}
 use Rattle.mix_dap.specs.Ended.{end_told}
 use Rattle.mix_dap.specs.Events.{AddsAnswer, AddsEvents, Event, invalidated, stopped}
 use Rattle.mix_dap.specs.Fault.{fault_number, fault_text, fault_place}
-use Rattle.mix_dap.specs.Leaves.{BreaksOff, Leaves, refusal_in}
+use Rattle.mix_dap.specs.Leaves.{refusal_in}
 use Rattle.mix_dap.specs.Output.{all_told, outputs}
 use Rattle.mix_dap.specs.Points.{PointsState}
 use Rattle.mix_dap.specs.Reaction.{Beside, Reaction, acted, asked_done, beside, console, line_done, reaction, reaction_to, refuses, replied_unless, said_or_done, still, unless, written}
-use Rattle.mix_dap.specs.Reacts.{Answered, GoesOn, IsSame, Leaving, ReactsAs, Runs, RunsPartly, flow_after, flow_of, is_done}
+use Rattle.mix_dap.specs.Reacts.{Answered, GoesOn, IsSame, ReactsAs, Runs, flow_after, flow_of, is_done}
 use Rattle.mix_dap.specs.Replies.{answer_message}
 use Rattle.mix_dap.specs.Runs.{RunBroken, RunDone, why_of_run}
 use Rattle.mix_dap.specs.Stopped.{fault_at, out_of_memory}
@@ -185,13 +184,6 @@ reacts-done x r mid b later how old between new is flows goes = record {
   goes = subst (λ l. GoesOn l mid b between new) is.5 goes;
 }
 
-pub leaves-running : (k : Kind) (r : Request) (a mid : Adapter) (later : Then) (old between : Outbox) (new : Timeline) → Answered (reaction k r a) r mid later old between
-    → RunsPartly later mid.points mid.session.timeline new → Leaving k r a new
-leaves-running k r a mid later old between new is part =
-    let x = reaction k r a in
-    inr (inr (subst (λ l. RunsPartly l x.points x.timeline new) is.5 (subst (λ p. RunsPartly later p x.timeline new) is.2
-    (subst (λ t. RunsPartly later mid.points t new) is.1 part))))
-
 pub on-done : {E : Type 0} (result : Result Flow E) (x : Reaction) (r : Request) (mid b : Adapter) (later : Then) (old between new : Outbox)
     → Answered x r mid later old between → IfOk result (λ how. how ≡ flow_after later) → OnOk result (GoesOn later mid b between new)
     → IfOk result (λ how. ReactsAs x r how b old new)
@@ -212,13 +204,6 @@ on-misread (Ok how) asked why r a old new is flows tells = reacts-misread asked 
 on-misread (Err wrong) asked why r a old new is flows tells = tt
 
 -- ---- out of memory
-
-pub breaks-off : {T : Type 0} (asked : Result Deed Fault) (t new : Timeline) (result : Result T (Refused Fault)) → Leaves asked t new result
-    → IfMemory result (BreaksOff asked t new)
-breaks-off asked t new (Ok done) is = tt
-breaks-off asked t new (Err (refused.Fault why)) is = tt
-breaks-off (Ok deed) t new (Err refused.Memory) is = inr is
-breaks-off (Err wrong) t new (Err refused.Memory) is = inr is
 
 -- ---- a run, and what it tells
 

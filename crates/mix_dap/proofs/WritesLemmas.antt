@@ -7,7 +7,6 @@ use Rattle.mix_machine.specs.declared.part.Mark.{Mark}
 use Rattle.mix_session.specs.Change.{world_at}
 use Rattle.mix_session.specs.Timeline.{Timeline}
 use Rattle.mix_session.specs.Writes.{write_after, write_if, writes_back}
-use Rattle.mix_session.specs.declared.writes.Write.{Write}
 
 one-write : (b : Bool) (n : ℕ) (before after : Mark) → length (write_if b n before after) ≤ 1
 one-write true n before after = omega arith

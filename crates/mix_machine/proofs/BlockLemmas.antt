@@ -1,7 +1,6 @@
 -- Blocks that lie side by side in one list of words.
 use Rattle.std.proofs.Common.{ℕ, zero, suc, ◌+◌, ◌-◌, ◌*◌, ◌≡◌, ◌<◌, ◌≤◌, ◌∙◌, List, [], ◌∷◌, ◌++◌, Some, None, length, take, drop, set, get_or, replicate, refl, ap, sym, arith}
 use Rattle.std.specs.List.{slice_get}
-use Rattle.std.proofs.lemmas.Nat.{mul-add-lt}
 use Rattle.std.proofs.lemmas.List.{take-append-le, drop-append-le, take_all, nil_from_length, drop-drop, take-take, drop-take, take-set-le, drop-set-lt, drop-set-add, get_or-take, get_or-drop, length-drop, length-append, length-replicate, take-replicate, drop-replicate}
 use Rattle.std.proofs.lemmas.Option.{slice_get-get_or, slice_get_past}
 use Rattle.mix_word.specs.Word.{WordValue, zero_word}
@@ -47,10 +46,6 @@ pub block-read : (n size i : ℕ) (ws items : List WordValue) (a b : ℕ) → i 
 block-read n size i ws items a b h e f g =
     let len : i * size + size - i * size ≡ size = omega arith in
     rw (e, f, g, len) (sym (block-there n size i items h))
-
--- a word of a block is one of the list
-pub offset-within : (n size i j : ℕ) → i < n → j < size → i * size + j < n * size
-offset-within n size i j h k = let all = mul-add-lt i size j n h k in grind arith
 
 -- one word set
 pub blocks-set : (n size i j : ℕ) (ws : List WordValue) (v : WordValue) → i < n → j < size →

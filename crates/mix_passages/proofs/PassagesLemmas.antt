@@ -1,7 +1,7 @@
 -- The columns so far, and those of the words that are left, are all of them.
-use Rattle.std.proofs.Common.{◌≡◌, ◌<◌, ℕ, Bool, true, false, ◌&&◌, List, [], ◌∷◌, ◌++◌, length, Option, None, Some, refl, sym, ap, ◌∙◌, append_assoc, nat_le, nat_lt, option_and_then, arith}
+use Rattle.std.proofs.Common.{◌≡◌, ◌<◌, ℕ, Bool, true, false, ◌&&◌, List, ◌∷◌, ◌++◌, length, Option, None, Some, refl, sym, ap, ◌∙◌, append_assoc, nat_le, nat_lt, option_and_then, arith}
 use Rattle.std.proofs.lemmas.Bool.Decides.{nat_tests}
-use Rattle.std.proofs.lemmas.List.{append-nil, length-append}
+use Rattle.std.proofs.lemmas.List.{length-append}
 use Rattle.mix_session.specs.Session.{SessionState}
 use Rattle.mix_passages.specs.Passages.{ColumnValue}
 use Rattle.mix_passages.specs.Reading.{before_assert, columns_in, columns_of, columns_of_all, fitting, joined, most_columns}
@@ -45,12 +45,6 @@ columns-many columns (Some more) all many e =
     let long : nat_le (length (columns ++ more)) most_columns ≡ false = rw length-append (grind (arith, nat_tests, many)) in
     let none : (nat_lt 0 (length (columns ++ more)) && nat_le (length (columns ++ more)) most_columns) ≡ false = rw long (and-false (nat_lt 0 (length (columns ++ more)))) in
     rw (← e) (rw none refl)
-
--- no word is left
-pub columns-all : (s : SessionState) (words : List (List ℕ)) (columns : List ColumnValue) (all : Option (List ColumnValue)) → words ≡ [] →
-    joined columns (columns_of_all s words) ≡ all → all ≡ Some columns
-columns-all s words columns all e so_far =
-    let whole : Some (columns ++ []) ≡ all = rw e at so_far in sym whole ∙ ap (λ c. Some c) (append-nil columns)
 
 -- with the next word there are too many
 pub none-where-many : (s : SessionState) (all : List (List ℕ)) (word : List ℕ) (words more : List (List ℕ)) (columns next : List ColumnValue) → words ≡ word ∷ more →

@@ -103,12 +103,6 @@ leaves-none options part program units s refusal printed told n opens none answe
     let here = ap (λ (x : SessionState). step_table options.table part x) (sym opens) ∙ none in
     rw here ((rw (answer, deck) refl, map), Appends-nothing told, refl)
 
--- the map of a session after its steps
-pub draws-after : (steps : ℕ) (s0 s : SessionState) (new : List ℕ) → s.program ≡ s0.program
-    → s.timeline ≡ after (counted_steps steps s0.timeline) → IsMap s.program s.timeline new
-    → IsMap s0.program (after (counted_steps steps s0.timeline)) new
-draws-after steps s0 s new same led drawn = rw (same, led) at drawn
-
 -- ---- which run is asked for
 
 -- a table at the end is none of the steps

@@ -41,16 +41,6 @@ none-from : (asked : Bool) (count : ℕ) (u : UnitState) → count ≡ length u.
 none-from true count u e = items-none printed_row u.rows count (omega arith)
 none-from false count u e = refl
 
--- nothing was written since all rows
-pub none-after : (units : UnitSet) (counts : RowCounts) (w : WorldState) → HasCounts w counts → printed_after units counts w ≡ []
-none-after units counts w h =
-    rw (
-      none-from units.card_punch counts.card_punch (unit_at w 17) h.card_punch,
-      none-from units.printer counts.printer (unit_at w 18) h.printer,
-      none-from units.typewriter counts.typewriter (unit_at w 19) h.typewriter,
-      none-from units.paper_tape counts.paper_tape (unit_at w 20) h.paper_tape,
-    ) refl
-
 -- nothing is printed between two states whose units are the same
 pub none-between : (units : UnitSet) (w next : WorldState) → next.units ≡ w.units → printed_between units w next ≡ []
 none-between units w next e =

@@ -131,10 +131,6 @@ begun-in_row program part number steps rest w next end format names first now te
 
 -- ---- the rows of one step
 
-pub made-rows : (program : ProgramValue) (part : Option Part) (number : ℕ) (w next : WorldState) → does w Step ≡ Ok next
-    → rows_made program part number w ≡ rows_of program part number w next
-made-rows program part number w next done = rw done refl
-
 pub traced-row : (format : TableFormat) (names : List FieldValue) (first : Bool) (program : ProgramValue) (number : ℕ) (w next : WorldState) (loc : ℕ)
     (instruction old new : List ℕ) → does w Step ≡ Ok next → loc ≡ w.loc → instruction ≡ change_text w Step
     → new ≡ old ++ row_text format names first (trace_row program number loc instruction next)

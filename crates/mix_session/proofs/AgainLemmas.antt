@@ -1,5 +1,5 @@
 -- Where nothing stands ahead, a run that does changes again is one of new steps.
-use Rattle.std.proofs.Common.{◌≡◌, ◌<◌, ◌≤◌, ◌∙◌, ℕ, zero, suc, List, [], Option, None, Some, refl, ap, sym, subst}
+use Rattle.std.proofs.Common.{◌≡◌, ◌<◌, ◌≤◌, ◌∙◌, ℕ, zero, suc, [], Option, None, Some, refl, ap, sym}
 use Rattle.std.proofs.Math.Path.{fun_ext}
 use Rattle.std.specs.Option.{is_some, unwrap_or}
 use Rattle.mix_session.specs.Command.{Effect, after, effect_of_run, count_of_run, end_at, end_of_last, least_below}

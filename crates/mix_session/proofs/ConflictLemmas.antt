@@ -1,5 +1,5 @@
 -- Facts of the transfers under way and of the lines of what conflicts, over plain variables.
-use Rattle.std.proofs.Common.{◌≡◌, ℕ, suc, ◌+◌, ◌-◌, ◌<◌, List, [], ◌∷◌, ◌++◌, length, take, get_or, Option, None, Some, refl, sym, ap, ◌∙◌, arith, add-one, length-append, append_assoc}
+use Rattle.std.proofs.Common.{◌≡◌, ℕ, suc, ◌+◌, ◌-◌, ◌<◌, List, [], ◌∷◌, ◌++◌, length, take, get_or, Option, None, Some, refl, sym, ap, ◌∙◌, arith, add-one, append_assoc}
 use Rattle.std.proofs.lemmas.List.{get_or_default}
 use Rattle.undo_core.specs.Replay.{replay}
 use Rattle.mix_machine.specs.World.{WorldState}
@@ -58,10 +58,6 @@ line_of_conflict t n change v w found below at from to is =
     let before : world_at t (n + 1 - 1) ≡ v = ap (world_at t) one ∙ world_at-is t n v from in
     let after : world_at t (n + 1) ≡ w = world_at-is t (n + 1) w to in
     rw (here, before, after, ← is) (sym (append_assoc (change_front (n + 1) change v w) (conflict_column found) (10 ∷ [])))
-
--- what is done is among all
-pub done-within : (t : Timeline) (n : ℕ) → n < length t.changes → n < length (t.changes ++ t.ahead)
-done-within t n below = omega (arith, below, length-append t.changes t.ahead)
 
 -- one text more after texts
 pub texts-more : (f : ℕ → List ℕ) (n : ℕ) (now next : List ℕ) → now ≡ texts f 1 (n + 1) → next ≡ now ++ f (n + 1) → next ≡ texts f 1 (n + 1 + 1)

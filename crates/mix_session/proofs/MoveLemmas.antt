@@ -1,7 +1,7 @@
 -- What one change more of a run does, over plain variables.
-use Rattle.std.proofs.Common.{◌≡◌, ◌+◌, ◌-◌, ◌<◌, ◌≤◌, ◌∙◌, ◌++◌, ℕ, Bool, true, false, List, [], ◌∷◌, length, take, drop, get_or, Option, None, Some, Result, Ok, Err, refl, ap, arith, eqb, IsSome, length-append}
+use Rattle.std.proofs.Common.{◌≡◌, ◌+◌, ◌-◌, ◌<◌, ◌∙◌, ◌++◌, ℕ, Bool, true, false, List, [], ◌∷◌, length, take, drop, get_or, Option, None, Some, Result, Ok, Err, refl, ap, arith, eqb, IsSome}
 use Rattle.std.proofs.lemmas.Bool.Decides.{nat_tests}
-use Rattle.std.proofs.Math.Seq.{take-length, get_or-append_seam}
+use Rattle.std.proofs.Math.Seq.{take-length}
 use Rattle.std.specs.Result.{IfOk, IsOk}
 use Rattle.mix_refused.specs.declared.refused.Memory.{Memory}
 use Rattle.undo_core.specs.History.{HoldsOfState}
@@ -19,7 +19,7 @@ use Rattle.mix_session.specs.Timeline.{Timeline, world_of, begins_with_step, mov
 use Rattle.mix_session.specs.declared.command.stops.Way.{Way}
 use Rattle.mix_session.specs.declared.command.stops.Way.TheVariants.{New, Again, Back}
 use Rattle.mix_session.specs.declared.reply.End.{End}
-use Rattle.mix_session.specs.declared.reply.End.TheVariants.{Start, Fault}
+use Rattle.mix_session.specs.declared.reply.End.TheVariants.{Fault}
 use Rattle.mix_machine.specs.declared.part.Mark.{Mark}
 use Rattle.mix_session.proofs.TimelineLemmas.{timeline-is, world_of-is, holds_now, back_by-none, back_by-next, first-step}
 use Rattle.mix_session.proofs.CommandLemmas.{fault_end-ok, moved-next}
@@ -86,24 +86,9 @@ HasMoved-back t next some first changes all =
           last-given t.first t.changes (length t.changes - 1) w v (omega (arith, some)) (rw (first, changes) at f) (ap (replay does t.first) whole ∙ e),
     )
 
--- none is left to be taken back
-pub HasMoved-start : (t next : Timeline) → length t.changes ≤ 0 → next ≡ t → HasMoved Back t next (Some Start)
-HasMoved-start t next none same = let left : eqb (length t.changes) 0 ≡ true = grind (arith, nat_tests) in (same, rw left refl)
-
 same_first : (c : Change) (rest others : List Change) → begins_with_step (c ∷ rest) ≡ begins_with_step (c ∷ others)
 same_first Step rest others = refl
 same_first other rest others = refl
-
--- whether a step stands ahead is told by the change after those done, where there is one
-pub begins-some : (done ahead : List Change) (n : ℕ) (c : Change) → n ≡ length done → n < length (done ++ ahead) → c ≡ get_or (done ++ ahead) n c →
-    begins_with_step (c ∷ []) ≡ begins_with_step ahead
-begins-some done [] n c count within is = absurd (omega (arith, length-append done []))
-begins-some done (d ∷ rest) n c count within is =
-    let same : c ≡ d = is ∙ ap (λ i. get_or (done ++ d ∷ rest) i c) count ∙ get_or-append_seam done d rest c in rw same (same_first d [] rest)
-
-pub begins-none : (done ahead : List Change) (n : ℕ) → n ≡ length done → length (done ++ ahead) ≤ n → begins_with_step ahead ≡ false
-begins-none done [] n count within = refl
-begins-none done (d ∷ rest) n count within = absurd (omega (arith, length-append done (d ∷ rest)))
 
 -- one change more: the timeline after it, why the run then ends, the marks, and what is known of conflicts
 pub one_more : AlteredLaw → (way : Way) (stops : StopsState) (t now next : Timeline) (k : ℕ) (v w : WorldState) (halts told : Bool) (before after : List Mark)

@@ -1,6 +1,5 @@
 -- The states found in which the machine is at a location, with those among the states that are left, are all of them.
-use Rattle.std.proofs.Common.{◌≡◌, ℕ, suc, ◌+◌, eqb, List, [], ◌++◌, length, refl, sym, ◌∙◌, append_assoc, add-one}
-use Rattle.std.proofs.lemmas.List.{append-nil}
+use Rattle.std.proofs.Common.{◌≡◌, ℕ, suc, ◌+◌, eqb, List, [], ◌++◌, length, refl, ◌∙◌, append_assoc, add-one}
 use Rattle.mix_machine.specs.Part.{mark_of}
 use Rattle.mix_machine.specs.declared.part.Mark.{Mark}
 use Rattle.mix_machine.specs.declared.part.Part.TheVariants.{Loc}
@@ -25,7 +24,3 @@ pub passed-first : (t : Timeline) (place n : ℕ) (mark : Mark) (list next : Lis
 passed-first t place n mark list next now none at e =
     let all : ArePassed t place (suc (length t.changes)) [] = rw add-one refl in
     passed-one t place (length t.changes) mark [] next at all (rw (none, now) at e)
-
--- none is left
-pub passed-all : (t : Timeline) (place : ℕ) (list : List ℕ) → ArePassed t place 0 list → list ≡ passages_back t place (length t.changes + 1)
-passed-all t place list passed = sym (append-nil list) ∙ passed

@@ -1,5 +1,5 @@
 -- Plain steps, over plain variables: they are new steps, and a free run goes on after each of them.
-use Rattle.std.proofs.Common.{◌≡◌, ◌<◌, ◌==◌, ◌∙◌, ◌++◌, ℕ, zero, suc, Bool, true, false, ◌&&◌, ◌||◌, not, List, [], ◌∷◌, replicate, get_or, Result, Err, None, Some, Ok, refl, ap, sym, subst, arith, append_assoc, nat_le, nat_lt}
+use Rattle.std.proofs.Common.{◌≡◌, ◌<◌, ◌==◌, ◌∙◌, ◌++◌, ℕ, zero, suc, Bool, true, false, ◌&&◌, ◌||◌, not, List, [], ◌∷◌, replicate, Result, Err, Some, Ok, refl, ap, sym, subst, arith, append_assoc, nat_le, nat_lt}
 use Rattle.std.proofs.lemmas.Bool.{and_parts}
 use Rattle.std.proofs.lemmas.Bool.Decides.{nat_tests}
 use Rattle.std.proofs.lemmas.List.{append-nil}
@@ -20,13 +20,8 @@ use Rattle.mix_machine.specs.declared.old.Change.{Change}
 use Rattle.mix_machine.specs.declared.old.Change.TheVariants.{Step}
 use Rattle.mix_machine.specs.declared.old.Old.{Old}
 use Rattle.mix_machine.specs.law.Steps.{steps_on}
-use Rattle.mix_machine.specs.declared.part.Mark.{Mark}
-use Rattle.mix_session.specs.Marks.{end_by_marks}
 use Rattle.mix_session.specs.Plain.{ArePlain, IsLeft}
-use Rattle.mix_session.specs.Stops.{StopsState}
 use Rattle.mix_session.specs.Timeline.{Timeline, world_of, with_change, is_at_break}
-use Rattle.mix_session.specs.declared.command.stops.Way.TheVariants.{New}
-use Rattle.mix_session.specs.declared.condition.Condition.{Condition}
 use Rattle.mix_session.proofs.TimelineLemmas.{timeline-is, world_of-is}
 
 -- a step keeps the breakpoints
@@ -111,10 +106,3 @@ break-none false met none = refl
 no-break : (breaks : Bool) (w : WorldState) → (breaks ≡ true → (p : ℕ) → p < 4000 → has_break w p ≡ false) → (breaks && is_at_break w) ≡ false
 no-break breaks w none =
     break-none breaks (is_at_break w) (λ stops. break-none (nat_lt w.loc 4000) (has_break w w.loc) (λ below. none stops w.loc (grind (arith, nat_tests))))
-
--- nothing ends a run at a state which stops nothing
-pub nothing-there : (stops : StopsState) (w : WorldState) → stops.watched ≡ [] → stops.cells ≡ [] → stops.location ≡ None →
-    (stops.breaks ≡ true → (p : ℕ) → p < 4000 → has_break w p ≡ false) → (marks : List Mark) → end_by_marks false false stops marks w ≡ None
-nothing-there stops w watched cells location breaks marks =
-    let at : (stops.breaks && is_at_break w) ≡ false = no-break stops.breaks w breaks in
-    rw (watched, cells, location, at) refl

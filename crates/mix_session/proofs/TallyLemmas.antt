@@ -130,12 +130,6 @@ pub record IsTallied (t : Timeline) (which : ℕ → Bool) (n : ℕ) (tally : Ta
 pub IsTallied-none : (t : Timeline) (which : ℕ → Bool) → IsTallied t which (length t.changes) no_tally
 IsTallied-none t which = record { count = omega arith; time = omega arith; within = omega arith }
 
-pub IsTallied-all : (t : Timeline) (which : ℕ → Bool) (tally : Tally) → IsTallied t which 0 tally → tally ≡ tally_of t which
-IsTallied-all t which tally tallied =
-    let count : tally.count ≡ (tally_of t which).count = omega (arith, tallied.count) in
-    let time : tally.time ≡ (tally_of t which).time = omega (arith, tallied.time) in
-    rw (← count, ← time) refl
-
 -- the change is one of those that are counted
 pub IsTallied-one : (t : Timeline) (which : ℕ → Bool) (n place time : ℕ) (tally : Tally) → Took t n place time →
     which n ≡ true → IsTallied t which (suc n) tally → IsTallied t which n (with_one tally time)

@@ -1,29 +1,27 @@
 -- Where plain steps go on that are done many at a time, no end of the run holds.
-use Rattle.std.proofs.Common.{◌≡◌, ◌≢◌, ◌<◌, ◌==◌, ◌&&◌, ◌||◌, ◌∙◌, ℕ, zero, suc, Bool, true, false, not, List, [], ◌∷◌, length, length-set, set, get_or, replicate, Option, None, Some, refl, ap, sym, subst, arith, nat_lt, get_or-set_other, get_or-set_same, if◌then◌else◌}
+use Rattle.std.proofs.Common.{◌≡◌, ◌≢◌, ◌<◌, ◌==◌, ◌&&◌, ◌||◌, ◌∙◌, ℕ, Bool, true, false, not, List, [], ◌∷◌, length, length-set, set, get_or, Option, None, Some, refl, ap, arith, nat_lt, get_or-set_other, get_or-set_same, if◌then◌else◌}
 use Rattle.std.proofs.lemmas.Bool.{and_parts}
 use Rattle.std.proofs.lemmas.Bool.Decides.{nat_tests}
 use Rattle.std.specs.List.{list_any}
-use Rattle.std.specs.Option.{option_map, option_or}
 use Rattle.mix_machine.specs.World.{WorldState, has_break}
 use Rattle.mix_machine.specs.Decode.{instruction}
 use Rattle.mix_machine.specs.Do.{is_plain_next, is_looked_at}
 use Rattle.mix_machine.specs.Part.{is_same_mark, mark_of}
 use Rattle.mix_machine.specs.Watch.{WatchState, is_other, is_there, stops_at, with_all, with_location}
-use Rattle.mix_machine.specs.law.Steps.{steps_on}
 use Rattle.mix_machine.specs.declared.part.Mark.{Mark}
 use Rattle.mix_session.specs.Command.{end_there}
 use Rattle.mix_session.specs.Known.{has_conflict}
-use Rattle.mix_session.specs.Marks.{end_by_marks, first_met}
+use Rattle.mix_session.specs.Marks.{first_met}
 use Rattle.mix_machine.specs.Many.{ends_at}
-use Rattle.mix_session.specs.Plain.{AllowsMany, IsFree, breaks_of, locations_of, watch_for}
-use Rattle.mix_session.specs.Stops.{StopsState, is_at_stop, is_awaited}
+use Rattle.mix_session.specs.Plain.{AllowsMany, breaks_of, locations_of, watch_for}
+use Rattle.mix_session.specs.Stops.{StopsState, is_awaited}
 use Rattle.mix_session.specs.Timeline.{is_at_break}
 use Rattle.mix_machine.specs.declared.many.Many.{Many}
-use Rattle.mix_machine.specs.declared.many.Many.TheVariants.{Freely, Until}
+use Rattle.mix_machine.specs.declared.many.Many.TheVariants.{Until}
 use Rattle.mix_session.specs.declared.command.stops.Way.TheVariants.{New}
 use Rattle.mix_session.specs.declared.condition.Condition.{Condition}
-use Rattle.mix_session.specs.declared.condition.Condition.TheVariants.{Alters, At, Conflicts}
-use Rattle.mix_session.proofs.PlainLemmas.{nothing-there, on-plain}
+use Rattle.mix_session.specs.declared.condition.Condition.TheVariants.{Alters, At}
+use Rattle.mix_session.proofs.PlainLemmas.{on-plain}
 
 or-parts : (a b : Bool) → (a || b) ≡ false → (a ≡ false) × (b ≡ false)
 or-parts true b e = absurd (cc)
@@ -160,20 +158,3 @@ allows-watch stops marks w watch long is =
           let none = watched-none stops w x stops.watched marks watch long same (plain-cell x parts.1) is (not-true (stops_at watch x) parts.0) in
           rw (none.1, none.2) refl;
     }
-
--- and where nothing stops it
-pub allows-free : (stops : StopsState) (marks : List Mark) (w : WorldState) → IsFree stops w → AllowsMany New stops marks w.breaks Freely
-allows-free stops marks w free =
-    record {
-      new = refl;
-      conflicts = ap has_conflict free.watched;
-      going = λ x same on.
-          nothing-there stops x free.watched free.cells free.location
-          (λ set p below. ap (λ (breaks : List Bool). get_or breaks p false) same ∙ free.breaks set p below) marks;
-    }
-
--- one condition, and its mark
-pub one-of : {A : Type 0} (xs : List A) (x : A) → 0 < length xs → length xs < 2 → x ≡ get_or xs 0 x → xs ≡ x ∷ []
-one-of [] x some few is = absurd (omega (arith, some))
-one-of (y ∷ []) x some few is = ap (λ z. z ∷ []) (sym is)
-one-of (y ∷ z ∷ zs) x some few is = absurd (omega (arith, few))

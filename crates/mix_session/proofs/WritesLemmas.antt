@@ -1,7 +1,6 @@
 -- What was found of the changes that altered a part, with those among the changes that are left, are all of them.
-use Rattle.std.proofs.Common.{◌≡◌, ℕ, suc, ◌<◌, ◌≤◌, Bool, true, false, not, List, ◌++◌, length, take, refl, sym, ◌∙◌, arith, min, append_assoc, add-one}
-use Rattle.std.proofs.lemmas.List.{append-nil, length-append, take_all}
-use Rattle.std.proofs.Math.Seq.{take-append_seam}
+use Rattle.std.proofs.Common.{◌≡◌, ℕ, suc, ◌<◌, ◌≤◌, Bool, true, false, not, List, ◌++◌, length, refl, ◌∙◌, arith, min, append_assoc, add-one}
+use Rattle.std.proofs.lemmas.List.{append-nil, length-append}
 use Rattle.std.proofs.Math.Nat.{min-eq_left, min-eq_right}
 use Rattle.mix_machine.specs.Part.{IsPart, is_altered, is_same_mark}
 use Rattle.mix_machine.specs.declared.part.Part.{Part}
@@ -46,16 +45,3 @@ pub write_if-few : (b : Bool) (list : List Write) (number most : ℕ) (before af
     length (list ++ write_if b number before after) ≤ most
 write_if-few true list number most before after few = rw length-append (omega (arith, few))
 write_if-few false list number most before after few = rw append-nil (omega (arith, few))
-
--- nothing is left, or there are as many as are asked for
-pub found-all : (t : Timeline) (part : Part) (until most : ℕ) (list : List Write) → length list ≤ most → AreFound t part until 0 list →
-    list ≡ take most (writes_back t part (min until (length t.changes)))
-found-all t part until most list few found =
-    let none : min until 0 ≡ 0 = min-eq_right (omega arith) in
-    let whole : list ≡ writes_back t part (min until (length t.changes)) = sym (append-nil list) ∙ rw none at found in
-    rw (← whole) (sym (take_all most list few))
-
-pub found-most : (t : Timeline) (part : Part) (until n most : ℕ) (list : List Write) → length list ≡ most → AreFound t part until n list →
-    list ≡ take most (writes_back t part (min until (length t.changes)))
-found-most t part until n most list full found =
-    rw (← found, ← full) (sym (take-append_seam list (writes_back t part (min until n))))

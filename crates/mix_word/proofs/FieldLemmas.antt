@@ -1,5 +1,5 @@
 -- bits taken out of a number and put into it, by masks and shifts
-use Rattle.std.proofs.Common.{◌≡◌, ℕ, zero, suc, ◌+◌, ◌*◌, ◌-◌, ◌/◌, ◌%◌, ◌^◌, ◌<◌, ◌≤◌, arith, refl, ap, ◌∙◌, sym, subst, bit_and, Bool, true, ◌==◌, ◌&&◌}
+use Rattle.std.proofs.Common.{◌≡◌, ℕ, ◌+◌, ◌*◌, ◌-◌, ◌/◌, ◌%◌, ◌^◌, ◌<◌, ◌≤◌, arith, ap, ◌∙◌, sym, bit_and, Bool, true, ◌==◌, ◌&&◌}
 use Rattle.std.proofs.lemmas.Nat.{pow-add, one_shl, and_mask, and-not, shl_whole, pow_pos, mod_below, shr_split, shr_below, mul-add-lt, and_comm, mod-pow-add}
 use Rattle.std.proofs.lemmas.Nat.Bits.{and_high}
 use Rattle.std.proofs.lemmas.Bool.Decides.{nat_tests}

@@ -31,10 +31,6 @@ emitted_closed name value (first ∷ held) =
     emitted_closed-one name value first (waits_for name first.emitted.awaits) refl in
     rw (one, emitted_closed name value held) refl
 
-emitted_held : (names : NamesSoFar) (emitted : List Emitted) → emitted_of (held_by names emitted) ≡ emitted
-emitted_held names [] = refl
-emitted_held names (first ∷ emitted) = ap (λ (es : List Emitted). first ∷ es) (emitted_held names emitted)
-
 -- a word that is as it is by some names, after one name more
 known_after : (names : NamesSoFar) (name awaited : Key) (value : WordValue) (b : Bool) → same_key name awaited ≡ b → value_of names name ≡ None
     → value_of (names ++ (name, value) ∷ []) awaited ≡ (if b then Some value else value_of names awaited)

@@ -1,5 +1,5 @@
 -- The index of a program after one item more, and what it leads to.
-use Rattle.std.proofs.Common.{◌≡◌, ◌≢◌, ℕ, zero, suc, ◌+◌, ◌<◌, ◌≤◌, nat_eq, Bool, true, false, cond, if◌then◌else◌, List, [], ◌∷◌, ◌++◌, length, map, take, get_or, replicate, Option, Some, None, refl, sym, ap, ◌∙◌, arith}
+use Rattle.std.proofs.Common.{◌≡◌, ◌≢◌, ℕ, zero, suc, ◌+◌, ◌<◌, ◌≤◌, nat_eq, Bool, true, false, cond, if◌then◌else◌, List, [], ◌∷◌, ◌++◌, length, map, take, get_or, Option, Some, None, refl, sym, ap, ◌∙◌, arith}
 use Rattle.std.specs.Prelude.{◌-◌, nat_le, nat_lt, slice_get, slice_index, slice_set, option_and_then, is_some}
 use Rattle.std.specs.List.{filter_map, last_or}
 use Rattle.std.specs.Map.{lookup}
@@ -9,9 +9,9 @@ use Rattle.std.specs.Cmp.{unsigned_Decides}
 use Rattle.std.specs.List.Sorted.{IsNonDecreasingBy}
 use Rattle.std.proofs.lemmas.Bool.{le-leb, lt-leb, leb-true, ltb-true, ltb-false}
 use Rattle.std.proofs.lemmas.Grind.{get_or-set_at}
-use Rattle.std.proofs.lemmas.List.{take_more, length-replicate, length-set, get_or-replicate, get_or-set_other, get_or-map, length-map}
+use Rattle.std.proofs.lemmas.List.{take_more, length-set, get_or-set_other, get_or-map, length-map}
 use Rattle.std.proofs.lemmas.List.Sorted.{IsNonDecreasingBy-push}
-use Rattle.std.proofs.lemmas.Option.{slice_get_past, slice_get_read, slice_get-get_or}
+use Rattle.std.proofs.lemmas.Option.{slice_get_read, slice_get-get_or}
 use Rattle.std.proofs.lemmas.Slice.Eq.{bytes_eq-Decides}
 use Rattle.std.proofs.lemmas.List.Elements.{filter_map-append}
 use Rattle.mix_word.specs.Word.{WordValue}
@@ -138,15 +138,6 @@ first_at number (cell ∷ cells) (suc i) below from =
     rw past (first_at number cells i (λ k d h. below (suc k) d (omega arith)) (λ k d h g. from (suc k) d (omega arith) (omega arith)))
 
 -- ---- by place
-
--- where no item was looked through, there is none
-pub none_noted : {A B : Type 0} (at : ℕ → A → Option B) (of : A → B) (items : List A) (places n : ℕ) → n ≡ length items
-    → LeadsToLast at of items [] (replicate places n)
-none_noted at of items places n is place below =
-    let size : length (replicate places n) ≡ places = length-replicate places n in
-    let inside : place < places = omega arith in
-    let number : slice_index (replicate places n) place ≡ n = get_or-replicate places place n 0 inside in
-    rw (number, slice_get_past items n (omega arith)) refl
 
 pub noted : {A B : Type 0} (at : ℕ → A → Option B) (of : A → B) (items : List A) (i : ℕ) (item : A) (numbers new : List ℕ) (there : ℕ)
     → i < length items → item ≡ get_or items i item → ((place : ℕ) → at place item ≡ (if nat_eq there place then Some (of item) else None))

@@ -6,7 +6,7 @@ use Rattle.mixal_text.specs.declared.label.Label.{Label}
 use Rattle.mixal_text.specs.Steps.{◌>>=◌}
 use Rattle.mixal_text.specs.WValue.{w_value_of}
 use Rattle.mixal_text.specs.Address as apart
-use Rattle.mixal_text.specs.Address.{APartValue, OperandValue, address_of}
+use Rattle.mixal_text.specs.Address.{APartValue, address_of}
 use Rattle.mixal_asm.specs.declared.fault.AsmKind.{AsmKind}
 use Rattle.mixal_asm.specs.declared.fault.AsmKind.TheVariants.{AddressTooLarge, LocationOutOfRange}
 use Rattle.mixal_asm.specs.declared.row.Shows.{Shows}

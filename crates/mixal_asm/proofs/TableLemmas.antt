@@ -1,8 +1,8 @@
 -- The table of names after one name more.
-use Rattle.std.proofs.Common.{◌≡◌, ℕ, ◌+◌, ◌≤◌, nat_eq, Bool, true, false, cond, if◌then◌else◌, List, [], ◌∷◌, ◌++◌, length, Some, None, refl, sym, ap, subst, ◌∙◌, arith, add-zero, zero-add}
+use Rattle.std.proofs.Common.{◌≡◌, ℕ, ◌+◌, ◌≤◌, nat_eq, Bool, true, false, cond, if◌then◌else◌, List, [], ◌∷◌, ◌++◌, Some, None, refl, sym, ap, subst, ◌∙◌, arith, add-zero, zero-add}
 use Rattle.std.specs.Map.{lookup}
 use Rattle.std.specs.Option.{option_or}
-use Rattle.std.proofs.lemmas.List.Sums.{count_by-le-length, sum_by-append, fold-append}
+use Rattle.std.proofs.lemmas.List.Sums.{sum_by-append, fold-append}
 use Rattle.std.specs.Cmp.{unsigned_Decides}
 use Rattle.indexmap.specs.IndexMap.{insert_entry}
 use Rattle.mix_word.specs.Word.{WordValue}
@@ -11,7 +11,7 @@ use Rattle.mixal_asm.specs.declared.key.Key.TheVariants.{Name, Local, Literal}
 use Rattle.mixal_asm.specs.declared.names.Latest.{Latest}
 use Rattle.mixal_asm.specs.Key.{same_key, same_key_decides, is_local}
 use Rattle.mixal_asm.specs.PassOne.{NamesSoFar, value_of, locals_in, back_of}
-use Rattle.mixal_asm.specs.Table.{IsTable, IsNew, IsNoted, IsWithin, count_of, latest_value}
+use Rattle.mixal_asm.specs.Table.{IsTable, IsNew, IsNoted, count_of, latest_value}
 
 -- a look-up in a list with one entry more
 pub lookup_push : {K X : Type 0} (test : K → Bool) (entries : List (K × X)) (k : K) (x : X)
@@ -38,11 +38,6 @@ pub new_has_none : (names : NamesSoFar) (latest : List (ℕ × Latest)) (name : 
 new_has_none names latest (Name symbol) table new = new
 new_has_none names latest (Local d n) table new = table.fresh d n (omega arith)
 new_has_none names latest (Literal j) table new = new
-
-pub new_within : (names : NamesSoFar) (name : Key) → IsNew names name → IsWithin (length names) name
-new_within names (Name symbol) new = tt
-new_within names (Local d n) new = omega (arith, count_by-le-length (λ (e : Key × WordValue). is_local d e.0) names)
-new_within names (Literal j) new = tt
 
 -- a dH that is none of the names is none of them with one more that is another
 still_fresh : (names : NamesSoFar) (d m : ℕ) (name : Key) (value : WordValue) → value_of names (Local d m) ≡ None

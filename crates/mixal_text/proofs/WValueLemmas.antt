@@ -13,11 +13,6 @@ abbrev pub left_of : NamesValue → WordValue → ℕ → WordValue → Option (
 left_of names here n word None = Ok word
 left_of names here n word (Some rest) = put_pieces names here (n - length rest) word (slice_split is_comma rest)
 
-pub all-left : (names : NamesValue) (here word : WordValue) (text : List ℕ)
-    → put_pieces names here 0 word (slice_split is_comma text) ≡ left_of names here (length text) word (Some text)
-all-left names here word text =
-    ap (λ (place : ℕ). put_pieces names here place word (slice_split is_comma text)) (omega arith)
-
 pub piece-refused : (names : NamesValue) (here : WordValue) (n : ℕ) (word : WordValue) (all : Result WordValue Misread) (pieces piece : List ℕ) (more : Option (List ℕ))
     → all ≡ left_of names here n word (Some pieces) → slice_split is_comma pieces ≡ piece ∷ pieces_of is_comma more
     → (misread : Misread) → Err misread ≡ put_piece names here (n - length pieces) word piece → Err misread ≡ all
@@ -30,11 +25,3 @@ left-after : (names : NamesValue) (here : WordValue) (n : ℕ) (next : WordValue
 left-after names here n next pieces piece None most whole = refl
 left-after names here n next pieces piece (Some rest) most whole =
     ap (λ (place : ℕ). put_pieces names here place next (slice_split is_comma rest)) (omega arith)
-
-pub piece-taken : (names : NamesValue) (here : WordValue) (n : ℕ) (word : WordValue) (all : Result WordValue Misread) (pieces piece : List ℕ) (more : Option (List ℕ))
-    → all ≡ left_of names here n word (Some pieces) → length_with_one (Some pieces) ≤ n + 1
-    → slice_split is_comma pieces ≡ piece ∷ pieces_of is_comma more → length piece + length_with_one more ≡ length pieces
-    → (next : WordValue) → Ok next ≡ put_piece names here (n - length pieces) word piece
-    → (all ≡ left_of names here n next more) × (length_with_one more ≤ n + 1)
-piece-taken names here n word all pieces piece more now most cut whole next e =
-    (now ∙ rw (cut, ← e) (left-after names here n next pieces piece more (omega arith) whole), omega arith)

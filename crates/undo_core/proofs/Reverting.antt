@@ -47,13 +47,6 @@ front_of xs front rest x n m first within next is =
     let place : length rest ≡ n = omega (arith, many, all, next) in
     sym (take-append_seam rest (x ∷ [])) ∙ ap (take (length rest)) (sym is ∙ first) ∙ take-take (length rest) m xs (omega (arith, place, next)) ∙ ap (λ k. take k xs) place
 
--- the last of them is the last of those from the nth on
-pub last_from : {O : Type 0} (xs front rest : List O) (x : O) (n m : ℕ) → front ≡ take m xs → m ≤ length xs → n < m → front ≡ rest ++ x ∷ [] → drop n front ≡ drop n rest ++ x ∷ []
-last_from xs front rest x n m first within below is =
-    let many : length front ≡ m = ap length first ∙ length-take-le m xs within in
-    let all : length front ≡ length rest + 1 = ap length is ∙ length-append rest (x ∷ []) in
-    ap (drop n) is ∙ drop-append-le n rest (x ∷ []) (omega (arith, many, all, below))
-
 put_back-join : {S O : Type 0} (put : S → O → Option S) (xs ys : List O) (s : S) (t : Option S) → put_back put ys s ≡ t →
     put_back put (xs ++ ys) s ≡ option_and_then (put_back put xs) t
 put_back-join put [] ys s None h = h

@@ -1,5 +1,4 @@
 -- The states before and after are those of the numbers.
-use Rattle.std.proofs.Common.{refl}
 use Rattle.mix_dap.proofs.view.change.change_shown.Goals as goal
 
 pub returns : goal.returns

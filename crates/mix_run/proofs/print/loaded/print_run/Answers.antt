@@ -1,8 +1,8 @@
 -- The registers stand behind what the steps print.
-use Rattle.std.proofs.Common.{◌≡◌, ◌∙◌, ◌++◌, ◌+◌, [], ap, refl, sym}
+use Rattle.std.proofs.Common.{◌∙◌, ◌++◌, ◌+◌, [], ap, refl, sym}
 use Rattle.std.proofs.lemmas.List.{append-nil}
 use Rattle.std.proofs.lemmas.Result.{err_from_is_err_and}
-use Rattle.mix_run.specs.Print.{registers_if, run_of, steps_of}
+use Rattle.mix_run.specs.Print.{registers_if, steps_of}
 use Rattle.mix_run.proofs.Written.{Appends-nothing, Appends-same, Appends-then, AppendsFront-after, AppendsFront-all}
 use Rattle.mix_run.proofs.WritesLemmas.{broken-then, writes-failed}
 use Rattle.mix_run.proofs.print.loaded.print_run.Goals as goal

@@ -1,4 +1,3 @@
-use Rattle.std.proofs.Common.{◌∙◌, arith, ap}
 use Rattle.mix_session.proofs.NamedLemmas.{outside-others, outside-here, none-named}
 use Rattle.mix_session.proofs.altered.near.with_named.Goals as goal
 
