@@ -18,7 +18,7 @@ sys.path[:0] = [HERE, os.path.join(os.path.dirname(HERE), "model")]
 
 import schema
 from client import Count
-from frames import Untold, commands, frame, heard, messages, request
+from frames import frame, heard, messages, request
 
 import bundle as model  # of tests/model/
 
@@ -76,6 +76,48 @@ def mutant(seed, k):
     for _ in range(draw.choice((0, 0, 1, 2))):
         text = changed(draw, text)
     return text + b"".join(map(frame, ENDING))
+
+
+class Untold(Exception):
+    """A request that the commands of a script have no words for."""
+
+
+def commands(requests, responses):
+    """The commands of a script that do what the accepted requests do, where there are no breakpoints. A step over what was taken back does the same
+    as a new step."""
+    stops = True
+    for message, response in zip(requests, responses):
+        if not response["success"]:
+            continue
+        command, given = message["command"], message.get("arguments")
+        given = given if isinstance(given, dict) else {}
+        if command == "launch":
+            stops = given.get("stopOnEntry") is True
+        elif command in ("next", "stepIn"):
+            yield "step 1"
+        elif command == "stepBack":
+            yield "back 1"
+        elif command == "reverseContinue":
+            yield "back all"
+        elif command in ("continue", "configurationDone", "restart"):
+            if command == "restart":
+                yield "back all"
+            if command == "continue" or not stops:
+                yield "run 1000000"
+        elif command == "goto":
+            yield f"set loc {int(given['targetId'])}"
+        elif command == "setVariable":
+            where = "" if given["variablesReference"] < 1000 else "cell "
+            yield f"set {where}{given['name']} {given['value']}"
+        elif command == "evaluate" and given.get("context") == "repl":
+            line = response["body"].get("line")  # there is none of what only asks
+            if line is None:
+                continue
+            if not line.split()[:1] or line.split()[0].lower() in ("forth", "goto"):
+                raise Untold
+            yield line
+        elif command in ("writeMemory", "stepOut"):
+            raise Untold
 
 
 def said(command, text):
