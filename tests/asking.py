@@ -2,13 +2,12 @@
 import operator
 import pathlib
 import re
-import subprocess
 import sys
 
 TOP = pathlib.Path(__file__).resolve().parent.parent
 sys.path += [str(TOP / "tests" / "adapter"), str(TOP / "course")]  # behind tests, whose counting.py is wanted
 
-from frames import frame, messages, request
+from frames import DONE, framed, launch, messages, sent
 
 OPERATORS = {"+": operator.add, "-": operator.sub, "*": operator.mul}
 REGISTERS = ("A", "X", "I1", "I2", "I3", "I4", "I5", "I6", "J")
@@ -24,12 +23,11 @@ def asked(program, bundle, requests):
     """The responses to requests about the program of a bundle, which waits before its first step."""
     source, deck = ("".join(f"{each}\n" for each in part) for part in (bundle.source, bundle.deck))
     requests = list(requests)
-    opening = [("initialize", {"adapterID": "mixrev"}), ("launch", {"sourceText": source, "devicesText": deck, "stopOnEntry": True}), ("configurationDone", {})]
-    text = b"".join(frame(request(seq, name, **given)) for seq, (name, given) in enumerate([*opening, *requests], 1))
-    ran = subprocess.run([program, "dap"], input=text, capture_output=True, timeout=120)
-    found = [message for message in messages(ran.stdout) if message["type"] == "response"]
-    if ran.returncode or ran.stderr or len(found) != len(opening) + len(requests) or not found[1]["success"]:
-        raise ValueError(f"status {ran.returncode}, {ran.stderr[-200:]}, {len(found)} responses, the launch {found[1:2]}")
+    opening = [("initialize", {"adapterID": "mixrev"}), launch(source, devicesText=deck), DONE]
+    output, errors, status = sent([program, "dap"], framed(*opening, *requests))
+    found = [message for message in messages(output) if message["type"] == "response"]
+    if status or errors or len(found) != len(opening) + len(requests) or not found[1]["success"]:
+        raise ValueError(f"status {status}, {errors[-200:]}, {len(found)} responses, the launch {found[1:2]}")
     return found[len(opening):]
 
 

@@ -10,7 +10,7 @@ sys.dont_write_bytecode = True
 sys.path.insert(0, os.path.dirname(os.path.abspath(__file__)))
 
 from client import run
-from exact import DONE, GOOD, launch, texts, told
+from frames import DONE, GOOD, framed, launch, texts
 
 # The text of a line, the column of the cursor, the words, and the column and the length of the word
 # that they complete. The symbols of the program get their values in this order: two by their lines,
@@ -42,7 +42,7 @@ def completes(command, count):
     """Each line, whether columns are counted from 1 or from 0."""
     for first in (1, 0):
         asked = [("completions", {"text": text, "column": column - 1 + first}) for text, column, *_ in COMPLETED if column - 1 + first >= 0]
-        found, ended = texts(command, told(("initialize", {"columnsStartAt1": first == 1}), launch(SYMBOLS), DONE, *asked))
+        found, ended = texts(command, framed(("initialize", {"columnsStartAt1": first == 1}), launch(SYMBOLS), DONE, *asked))
         answers = [message["body"] for message in map(json.loads, found) if message.get("command") == "completions"]
         wanted = [{"targets": [{"label": label, "start": start - 1 + first, "length": length} for label in labels]}
                   for _, column, labels, start, length in COMPLETED if column - 1 + first >= 0]
@@ -54,7 +54,7 @@ def completes(command, count):
 def missing(command, count):
     """Neither the text nor the column may be missing, nor the program."""
     asked = [("completions", {"text": "st"}), ("completions", {"column": 1}), ("completions", {"text": 5, "column": 1}), ("completions", {"text": "st", "column": "3"})]
-    found, _ = texts(command, told(asked[0], launch(SYMBOLS), *asked))
+    found, _ = texts(command, framed(asked[0], launch(SYMBOLS), *asked))
     numbers = [message["body"]["error"]["id"] for message in map(json.loads, found) if message.get("command") == "completions"]
     count.same("what is missing", numbers, [303, 302, 302, 302, 302])
 

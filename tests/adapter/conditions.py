@@ -12,7 +12,7 @@ sys.dont_write_bytecode = True
 sys.path.insert(0, os.path.dirname(os.path.abspath(__file__)))
 
 from client import run
-from exact import DONE, GOOD, launch, texts, told
+from frames import DONE, GOOD, framed, launch, texts
 from talks import AFTER, CALLS, program
 
 ON, BACK, OUT, NEXT = "continue", "reverseContinue", "stepOut", "next"
@@ -121,7 +121,7 @@ def source_of(path):
 
 def stops(command, source, requests):
     """Why the program stopped last, with the location and the clock, where these are asked for."""
-    found, ended = texts(command, told(launch(source), DONE, *requests))
+    found, ended = texts(command, framed(launch(source), DONE, *requests))
     stopped, reason = [], ""
     for message in map(json.loads, found):
         if message.get("event") == "stopped":
@@ -158,10 +158,10 @@ def answers(command, count):
     rows = [(given, stands) for given in GOOD_TEXTS] + [(given, [{"message": why, "verified": False}] * 2) for given, why in BAD_TEXTS]
     for given, wanted in rows:
         requests = [("setBreakpoints", {"breakpoints": [{"line": 6, **given}]}), at_12(**given)]
-        found, ended = texts(command, told(launch(source), DONE, *requests))
+        found, ended = texts(command, framed(launch(source), DONE, *requests))
         bodies = [message["body"]["breakpoints"] for message in map(json.loads, found) if str(message.get("command")).endswith("Breakpoints")]
         count.same(f"{given}", (bodies, ended), ([[point] for point in wanted], GOOD))
-    found, _ = texts(command, told(launch(source), DONE, lines((99, "NOWHERE", "0"))))
+    found, _ = texts(command, framed(launch(source), DONE, lines((99, "NOWHERE", "0"))))
     count.row("a line without a word is told first", any('"message":"no word from this line on"' in text for text in found), found)
 
 

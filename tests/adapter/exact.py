@@ -16,14 +16,12 @@ sys.path[:0] = [HERE, os.path.join(HERE, os.pardir, "runs")]
 
 from bundles import bundles
 from client import run
-from frames import bodies, frame, request
+from frames import DONE, GOOD, answers, frame, framed, launch, sent, states, texts
 
 SOURCE = " ENTA 5\n INCA 7\n STA 100\n HLT\n END 0\n"
 DISCONNECT = b'Content-Length: 51\r\n\r\n{"seq":1,"type":"request","command":"disconnect"}  '
 CUT = b"mixrev: T7 input cut\n"
 LONG = b"mixrev: T6 input too long\n"
-GOOD = [b"", 0]
-DONE = ("configurationDone", {})
 
 # What a client sends, what it is told on standard error, and the status.
 ENDS = [(b"", b"", 0), (DISCONNECT, b"", 0), (b"hello\r\n\r\nContent-Length: 2\r\n\r\n{}", b"", 0), (b"Content-Length: 3\r\n\r\n{}", CUT, 2),
@@ -77,7 +75,7 @@ CHECKED = ["", " JUMP 0\n\tLDA\tX\n LDA Y\n END 0\n", "X EQU 1\nX EQU 2\nENTA 5\
 # A program that types a row; after its launch and the stop at its entry these are asked for, and of
 # what comes back these messages, each with its number.
 HI = " OUT 3(19)\n HLT\n ORIG 3\n ALF HI\n END 0\n"
-ASKED = [("next", 7), ("fly", 8), ("disconnect", 9)]
+ASKED = [(name, {"threadId": 1, "name": "x"}) for name in ("next", "fly", "disconnect")]
 SENT = ['{"command":"next","request_seq":7,"seq":%d,"success":true,"type":"response"}',
         '{"body":{"error":{"format":"Q1 no such request","id":301,"showUser":true}},"command":"fly","message":"Q1 no such request","request_seq":8,'
         '"seq":%d,"success":false,"type":"response"}',
@@ -106,27 +104,6 @@ def rows_of(part):
         yield row[1], json.loads(row[2]), row[3]
 
 
-def sent(command, text):
-    """What is sent, what is told on standard error, and the status."""
-    ran = subprocess.run(command, input=text, capture_output=True, timeout=120)
-    return ran.stdout, ran.stderr, ran.returncode
-
-
-def told(*requests):
-    """The frames of requests that are numbered from 1 on."""
-    return b"".join(frame(request(seq, name, **given)) for seq, (name, given) in enumerate(requests, 1))
-
-
-def launch(source, **given):
-    return "launch", {"stopOnEntry": True, "sourceText": source, **given}
-
-
-def texts(command, text):
-    """The messages that come back, and how the talk ended."""
-    output, *ended = sent(command, text)
-    return [body.decode() for body in bodies(output)], ended
-
-
 def ends(command, count):
     for text, errors, status in ENDS:
         output, *ended = sent(command, text)
@@ -144,28 +121,21 @@ def frames(command, count):
     for given, text in UNHEARD:
         count.same(f"{given} is no request", texts(command, given), ([UNCLEAR % (text, 1)], GOOD))
     # the numbers go on, before a launch and after it
-    asked = [told(("initialize", {})), told(launch(HI)), told(DONE, ("next", {}))]
+    asked = [framed(("initialize", {})), framed(launch(HI)), framed(DONE, ("next", {}))]
     found, ended = texts(command, b"".join(given + each for (given, _), each in zip(UNHEARD, asked)))
     count.same("numbers of messages", ([json.loads(text)["seq"] for text in found], ended), (list(range(1, len(found) + 1)), GOOD))
     count.row("each is told in its turn", [text for text in found if "important" in text] == [UNCLEAR % (text, number) for (_, text), number in zip(UNHEARD, (1, 3, 6))], found)
 
 
 def messages(command, count):
-    asked = b"".join(frame(request(seq, name, threadId=1, name="x")) for name, seq in ASKED)
-    found, ended = texts(command, told(launch(HI), DONE) + asked)
+    found, ended = texts(command, framed(launch(HI), DONE) + framed(*ASKED, first=7))
     count.same("a talk ends", ended, GOOD)
     for wanted in SENT:
         count.row(wanted, any(text == wanted % number for number, text in enumerate(found, 1)), found)
-    asked = told(launch(LETTER), DONE, ("evaluate", {"expression": "show counts", "context": "repl"}))
+    asked = framed(launch(LETTER), DONE, ("evaluate", {"expression": "show counts", "context": "repl"}))
     frames = [frame((REPLIED % number).encode()) for number in range(1, 9)]
     output = sent(command, asked)[0]
     count.row("a length in bytes", output.endswith(tuple(frames)), output)
-
-
-def states(command, opening, requests):
-    """The state, as a page is told it, after each of some requests."""
-    found, _ = texts(command, told(*opening, *(each for asked in requests for each in (asked, ("mix/state", {})))))
-    return [message["body"] for message in map(json.loads, found) if message.get("command") == "mix/state"]
 
 
 def leads(command, count):
@@ -184,7 +154,7 @@ def steps(command, count):
     for (name, given, wanted), state in zip(rows, found):
         registers = {register["name"]: register["number"] for register in state["registers"]}
         count.same(f"{name} {given}", f"{state['location']} {registers['A']} {state['done']} {state['ahead']}", wanted)
-    found, _ = texts(command, told(launch(SOURCE), DONE, *[row[:2] for row in rows[6:]], ("dataBreakpointInfo", {"variablesReference": 1, "name": "A"})))
+    found, _ = texts(command, framed(launch(SOURCE), DONE, *[row[:2] for row in rows[6:]], ("dataBreakpointInfo", {"variablesReference": 1, "name": "A"})))
     for text in TOLD:
         count.row(f"{text} is told", any(text in message for message in found), found)
 
@@ -193,15 +163,6 @@ def ahead(command, count):
     source, script = FORTH.split("%SCRIPT\n")
     found = states(command, [launch(source), DONE], [("evaluate", {"expression": line, "context": "repl"}) for line in script.splitlines()])
     count.same("what stands ahead", [state["ahead"] for state in found], AHEAD)
-
-
-def answers(command, requests):
-    """The messages from the response to each request on, and before the next response, by the number of the request."""
-    found = {}
-    for message in texts(command, told(*requests))[0]:
-        at = json.loads(message).get("request_seq") or max(found, default=0)
-        found.setdefault(at, []).append(message)
-    return found
 
 
 def views(command, count):
@@ -215,7 +176,7 @@ def views(command, count):
 def launches(command, count):
     """What a launch gives to the units, and what refuses it."""
     for name, given, part in rows_of("launches"):
-        found, _ = texts(command, told((name, {"stopOnEntry": True, **given}), ("mix/units", {}), ("mix/state", {})))
+        found, _ = texts(command, framed((name, {"stopOnEntry": True, **given}), ("mix/units", {}), ("mix/state", {})))
         count.row(f"{name} {given}", any(part in message for message in found), found)
 
 
@@ -233,7 +194,7 @@ def undebugged(command, count):
 
 def locations(command, count):
     asked = ("breakpointLocations", {"line": 1, "endLine": 5})
-    found, _ = texts(command, told(asked, launch(TWICE), asked, ("setBreakpoints", {"breakpoints": [{"line": 1}, {"line": 2}]})))
+    found, _ = texts(command, framed(asked, launch(TWICE), asked, ("setBreakpoints", {"breakpoints": [{"line": 1}, {"line": 2}]})))
     count.row("no line before a launch", '"id":303' in found[0], found)
     for wanted in (STAYS, MOVED):
         count.row(wanted, any(wanted in message for message in found), found)
@@ -244,11 +205,7 @@ def wrong(command, count):
     stands = [("setBreakpoints", LINE_3), ("setDataBreakpoints", {"breakpoints": [{"dataId": "cell 100"}]})]
     runs = [("continue", {}), ("continue", {}), ("evaluate", {"expression": "show changes", "context": "repl"})]
     for name, given, argument in rows_of("wrong"):
-        asked = b"".join(frame(body) for body in (
-            *(request(seq, each, **its) for seq, (each, its) in enumerate([launch(SOURCE), DONE, *stands], 1)),
-            json.dumps({"seq": 5, "type": "request", "command": name, "arguments": given}).encode(),
-            *(request(seq, each, **its) for seq, (each, its) in enumerate(runs, 6))))
-        found = [json.loads(text) for text in texts(command, asked)[0]]
+        found = [json.loads(text) for text in texts(command, framed(launch(SOURCE), DONE, *stands, (name, given), *runs))[0]]
         answer = next((message for message in found if message.get("request_seq") == 5), {})
         error = answer.get("body", {}).get("error", {})
         count.same(f"{name} {given}", (answer.get("message"), error.get("id"), error.get("variables")), ("Q2 bad argument", 302, {"argument": argument}))
@@ -257,7 +214,7 @@ def wrong(command, count):
     for texts_of, cell in ((WHOLE_NUMBERS, SECOND_CELL), (ABSENT, FIRST_CELL)):
         for number in texts_of:
             body = b'{"seq":2,"type":"request","command":"readMemory","arguments":{"memoryReference":"0","count":6.0,"offset":%s}}' % number
-            found = texts(command, frame(request(1, *launch(SOURCE)[:1], **launch(SOURCE)[1])) + frame(body))[0]
+            found = texts(command, framed(launch(SOURCE)) + frame(body))[0]
             count.row(f"an offset {number}", any(cell in text for text in found), found)
 
 
@@ -294,13 +251,13 @@ def hovers(command, count):
         for short, register in (("A", "rA"), ("X", "rX"), *((str(n), f"rI{n}") for n in range(1, 7))) if "r" in name else (("", ""),):
             wanted[name.replace("r", short)] = sentence.replace("{r}", register)
     asked = [("evaluate", {"expression": f" {name} ", "context": "hover"}) for name in wanted]
-    found = [json.loads(text) for text in texts(command, told(launch(SOURCE), DONE, *asked))[0]]
+    found = [json.loads(text) for text in texts(command, framed(launch(SOURCE), DONE, *asked))[0]]
     same = [message["body"].get("result") for message in found if message.get("command") == "evaluate"]
     count.same("hovers over operations", dict(zip(wanted, same, strict=True)), wanted)
     for given in ({"expression": "LDA", "context": "watch"}, {"expression": "LDA"}, {"expression": "FADD", "context": "hover"}, {"expression": "LDA 5", "context": "hover"}):
-        found = texts(command, told(launch(SOURCE), DONE, ("evaluate", given)))[0]
+        found = texts(command, framed(launch(SOURCE), DONE, ("evaluate", given)))[0]
         count.row(f"{given}", '"id":202' in found[-1], found)
-    found = texts(command, told(launch("LDA EQU 5\n END 0\n"), DONE, asked[[*wanted].index("LDA")]))[0]
+    found = texts(command, framed(launch("LDA EQU 5\n END 0\n"), DONE, asked[[*wanted].index("LDA")]))[0]
     count.row("a symbol comes before an operation", '"result":"+ 00 00 00 00 05 = 5"' in found[-1], found)
 
 
@@ -312,7 +269,7 @@ def reports(command, count):
                 file.write(source)
             ran = subprocess.run([command[0], "check", "a.mixal"], cwd=folder, capture_output=True, text=True)
         wanted = [("launch", ran.returncode == 0)] + [("stderr", ran.stdout)] * (ran.stdout != "") + [("initialized",)] * (ran.returncode == 0)
-        found = [json.loads(text) for text in texts(command, told(("launch", {"program": "a.mixal", "sourceText": source})))[0]]
+        found = [json.loads(text) for text in texts(command, framed(("launch", {"program": "a.mixal", "sourceText": source})))[0]]
         same = [(it["command"], it["success"]) if it["type"] == "response" else (it["body"]["category"], it["body"]["output"]) if it["event"] == "output" else (it["event"],)
                 for it in found]
         count.same(f"{source!r} is launched", same, wanted)
@@ -324,7 +281,7 @@ def checks(command, count):
         lines = subprocess.run([command[0], "check", "--json", "-"], input=source.encode(), capture_output=True).stdout.splitlines()
         wanted = [{name: value for name, value in json.loads(line).items() if name != "file"} for line in lines]
         for opening in ([], [launch(SOURCE), DONE]):
-            found, ended = texts(command, told(*opening, ("mix/check", {"source": source})))
+            found, ended = texts(command, framed(*opening, ("mix/check", {"source": source})))
             told_of = [message["body"]["diagnostics"] for message in map(json.loads, found) if message.get("command") == "mix/check"]
             same = [[{name: value for name, value in it.items() if name != "remedy"} for it in all_of if it["code"] != "no-halt"] for all_of in told_of]
             count.same(f"{source!r} is checked, {'launched' if opening else 'not launched'}", (same, ended), ([wanted], GOOD))

@@ -1,21 +1,33 @@
-"""Frames and requests as the adapter has to read them, and what a talk comes to: written anew from the rules, for tests alone.
+"""Frames and requests as the adapter has to read them, what a talk comes to, and talks that are sent whole: written anew from the rules, for tests alone.
 
 A header is lines, each ended by a line feed, before which a carriage return may stand, up to the first empty one; `Content-Length`, in any letters,
 gives the length of the body in bytes, in 1 to 10 digits. A body is a request where it is JSON in UTF-8, an object of the type "request", with a
 whole number from 0 on as `seq`, however it is written, and a text as `command`."""
 import json
 import re
+import subprocess
 
 HEADER, BODY = 4096, 134217728
 CUT, LONG = "cut", "too long"
+GOOD = [b"", 0]
+DONE = ("configurationDone", {})
 
 
 def frame(body):
     return b"Content-Length: %d\r\n\r\n%s" % (len(body), body)
 
 
-def request(seq, command, **arguments):
+def request(seq, command, arguments):
     return json.dumps({"seq": seq, "type": "request", "command": command, "arguments": arguments}).encode()
+
+
+def framed(*requests, first=1):
+    """The frames of requests, each a name and its arguments, that are numbered from one on."""
+    return b"".join(frame(request(seq, *each)) for seq, each in enumerate(requests, first))
+
+
+def launch(source, **given):
+    return "launch", {"stopOnEntry": True, "sourceText": source, **given}
 
 
 def bodies(text):
@@ -85,3 +97,30 @@ def messages(output):
             raise ValueError(f"no frame: {output[at:at + 80]!r}")
         at = head.end() + int(head[1])
         yield json.loads(output[head.end():at])
+
+
+def sent(command, text):
+    """What is sent, what is told on standard error, and the status."""
+    ran = subprocess.run(command, input=text, capture_output=True, timeout=120)
+    return ran.stdout, ran.stderr, ran.returncode
+
+
+def texts(command, text):
+    """The messages that come back, and how the talk ended."""
+    output, *ended = sent(command, text)
+    return [body.decode() for body in bodies(output)], ended
+
+
+def states(command, opening, requests):
+    """The state, as a page is told it, after each of some requests."""
+    found, _ = texts(command, framed(*opening, *(each for asked in requests for each in (asked, ("mix/state", {})))))
+    return [message["body"] for message in map(json.loads, found) if message.get("command") == "mix/state"]
+
+
+def answers(command, requests):
+    """The messages from the response to each request on, and before the next response, by the number of the request."""
+    found = {}
+    for message in texts(command, framed(*requests))[0]:
+        at = json.loads(message).get("request_seq") or max(found, default=0)
+        found.setdefault(at, []).append(message)
+    return found

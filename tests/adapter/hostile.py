@@ -9,7 +9,6 @@ import concurrent.futures
 import os
 import random
 import re
-import subprocess
 import sys
 
 sys.dont_write_bytecode = True
@@ -18,7 +17,7 @@ sys.path[:0] = [HERE, os.path.join(os.path.dirname(HERE), "model")]
 
 import schema
 from client import Count
-from frames import frame, heard, messages, request
+from frames import frame, heard, messages, request, sent
 
 import bundle as model  # of tests/model/
 
@@ -34,8 +33,8 @@ TALK = [("initialize", {"adapterID": "mixrev", "linesStartAt1": True}), ("launch
         ("dataBreakpointInfo", {"variablesReference": 1, "name": "A"}), ("completions", {"text": "break lo", "column": 9}), ("next", {"threadId": 1}),
         ("exceptionInfo", {"threadId": 1})]
 PROBE = [("evaluate", {"expression": "show changes", "context": "repl"}), ("evaluate", {"expression": "show all", "context": "repl"}), ("disconnect", {})]
-BODIES = [request(seq, command, **arguments) for seq, (command, arguments) in enumerate(TALK, 1)]
-ENDING = [request(seq, command, **arguments) for seq, (command, arguments) in enumerate(PROBE, 9001)]
+BODIES = [request(seq, *each) for seq, each in enumerate(TALK, 1)]
+ENDING = [request(seq, *each) for seq, each in enumerate(PROBE, 9001)]
 EDGES = [b"0", b"-1", b"1", b"16", b"999", b"1000", b"4000", b"1e3", b"18446744073709551616", b"null", b"true", b"{}", b"[]", b'""', b'"\\ud800"', b"\xff", b"\x00",
          b'"repl"', b'"back 1"', b'"step 3"', b'"next"', b'"stepBack"', b'"restart"', b'"continue"', b'"setVariable"']
 
@@ -123,13 +122,13 @@ def commands(requests, responses):
 def said(command, text):
     """What is wrong with what the adapter makes of a text, in words, and whether the state was compared."""
     requests, status = heard(text)
-    ran = subprocess.run(command, input=text, capture_output=True, timeout=120)
-    if ran.returncode != status:
-        return f"status {ran.returncode}, and not {status}: {ran.stderr!r}", False
-    if (ran.stderr != b"") != (status == 2) or not re.fullmatch(rb"(mixrev: T\d .*\n)?", ran.stderr):
-        return f"on standard error stands {ran.stderr!r}", False
+    output, errors, ended = sent(command, text)
+    if ended != status:
+        return f"status {ended}, and not {status}: {errors!r}", False
+    if (errors != b"") != (status == 2) or not re.fullmatch(rb"(mixrev: T\d .*\n)?", errors):
+        return f"on standard error stands {errors!r}", False
     try:
-        every = [*messages(ran.stdout)]
+        every = [*messages(output)]
     except ValueError as problem:
         return str(problem), False
     wrong = [(fault, message) for message in every for fault in schema.faults(message)]

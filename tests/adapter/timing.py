@@ -28,7 +28,7 @@ class Talk:
     def ask(self, command, until="response", **arguments):
         """Sends a request, and reads up to its response, or up to an event."""
         self.seq += 1
-        self.process.stdin.write(frame(request(self.seq, command, **arguments)))
+        self.process.stdin.write(frame(request(self.seq, command, arguments)))
         self.process.stdin.flush()
         while True:
             length = int(self.process.stdout.readline().split(b":")[1])

@@ -54,7 +54,7 @@ def runs():
 def talk(runner, requests):
     """The bodies of the answers to some requests, of which the first is as long as a request may be; whether all follow each other in number; the other messages."""
     first, *others = requests
-    bodies = [request(1, first[0], **first[1]).ljust(BODY), *(request(seq, command, **given) for seq, (command, given) in enumerate(others, 2))]
+    bodies = [request(1, *first).ljust(BODY), *(request(seq, *each) for seq, each in enumerate(others, 2))]
     output, errors, status = runner.run(b"".join(map(frame, bodies)), ["dap"])
     every = [*messages(output)]
     answers = [message for message in every if message["type"] == "response"]
