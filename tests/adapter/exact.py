@@ -56,11 +56,6 @@ WHOLE_NUMBERS = [b"6", b"6.0", b"6e0", b"0.6e1", b"60E-1", b"600.00e-2"]
 ABSENT = [b"0", b"0.0", b"-0", b"-0.0", b"null"]
 FIRST_CELL, SECOND_CELL = '"address":"0x0000"', '"address":"0x0006"'
 
-# Of two lines that give a word for the same cell, a breakpoint stays on the second alone.
-TWICE = " NOP\n NOP\n ORIG 0\n NOP\n END 0\n"
-STAYS = '"body":{"breakpoints":[{"line":2},{"line":4}]}'
-MOVED = '"body":{"breakpoints":[{"instructionReference":"0x0000","line":4,"verified":true},{"instructionReference":"0x0006","line":2,"verified":true}]}'
-
 # A line that is altered while it is printed, until 0 + 1 + 10: by changes 2 and 3, not by change
 # 11.
 LINE = ' OUT 9(18)\n STZ 9\n STZ 10\n JBUS *(18)\n STZ 9\n HLT\n ORIG 9\n ALF "HULLO"\n END 0\n'
@@ -80,12 +75,6 @@ SENT = ['{"command":"next","request_seq":7,"seq":%d,"success":true,"type":"respo
         '{"body":{"error":{"format":"Q1 no such request","id":301,"showUser":true}},"command":"fly","message":"Q1 no such request","request_seq":8,'
         '"seq":%d,"success":false,"type":"response"}',
         '{"body":{"category":"stdout","output":"HI\\n"},"event":"output","seq":%d,"type":"event"}']
-
-# Programs that are not debugged, and what is told of each after its beginning: it ends by a HLT,
-# by a fault, or not at all. Whatever is asked to stop it is not verified.
-UNDEBUGGED = [(HI, ["output stdout HI\n", "terminated"]), (" CON 197\n END 0\n", ["output stderr M1 no such operation\n", "terminated"]), ("X JMP X\n END X\n", ["stopped pause"])]
-UNVERIFIED = [("setBreakpoints", {"breakpoints": [{"line": 1}]}), ("setInstructionBreakpoints", {"breakpoints": [{"instructionReference": "0"}]}),
-              ("setDataBreakpoints", {"breakpoints": [{"dataId": "cell 3"}]}), ("setExceptionBreakpoints", {"filters": ["conflict"]})]
 
 # What lines of the console are tried on, with a symbol that has a register's name.
 TYPED = " ENTA 5\nX STA 100\n HLT\n END 0\n"
@@ -180,26 +169,6 @@ def launches(command, count):
         count.row(f"{name} {given}", any(part in message for message in found), found)
 
 
-def undebugged(command, count):
-    """A program that is not debugged runs to its end."""
-    for source, wanted in UNDEBUGGED:
-        found = answers(command, [launch(source, noDebug=True), *UNVERIFIED, DONE])
-        for seq, (name, _) in enumerate(UNVERIFIED, 2):
-            body = json.loads(found[seq][0])["body"]
-            count.same(f"{source!r}: {name} sets none", body, {"breakpoints": [{"message": "not debugged", "verified": False}]})
-        events = [json.loads(text) for text in found[len(UNVERIFIED) + 2][1:]]
-        told_of = [" ".join([it["event"], *(it.get("body", {}).get(name, "") for name in ("category", "output", "reason") if name in it.get("body", {}))]) for it in events]
-        count.same(f"{source!r} is not debugged", told_of, wanted)
-
-
-def locations(command, count):
-    asked = ("breakpointLocations", {"line": 1, "endLine": 5})
-    found, _ = texts(command, framed(asked, launch(TWICE), asked, ("setBreakpoints", {"breakpoints": [{"line": 1}, {"line": 2}]})))
-    count.row("no line before a launch", '"id":303' in found[0], found)
-    for wanted in (STAYS, MOVED):
-        count.row(wanted, any(wanted in message for message in found), found)
-
-
 def wrong(command, count):
     """A request with an argument that is not what it has to be is refused by the name of it, and changes nothing."""
     stands = [("setBreakpoints", LINE_3), ("setDataBreakpoints", {"breakpoints": [{"dataId": "cell 100"}]})]
@@ -288,4 +257,4 @@ def checks(command, count):
 
 
 if __name__ == "__main__":
-    sys.exit(run(ends, frames, messages, leads, steps, ahead, views, launches, undebugged, locations, wrong, conflicts, console, hovers, reports, checks))
+    sys.exit(run(ends, frames, messages, leads, steps, ahead, views, launches, wrong, conflicts, console, hovers, reports, checks))

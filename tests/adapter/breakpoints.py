@@ -1,9 +1,9 @@
 #!/usr/bin/env python3
-"""Conditions and hit counts of breakpoints: tests/adapter/conditions.py PROGRAM [WORD..]
+"""Breakpoints: tests/adapter/breakpoints.py PROGRAM [WORD..]
 
-Where runs stop that come to breakpoints with a condition or a hit count. What is wanted follows from docs/DAP.md and from the states of programs/calls.mixal,
-which talks.py lists. A run comes to cell 12 (line 6) after 2, 5 and 8 steps, where rI1 is 3, 2, 1 and rJ is 0, 15, 15, and to cell 14 (line 8) after 4, 7
-and 10 steps, where rI1 is 2, 1, 0. The last line counts."""
+On which lines they stay, what is told of them, and where runs stop that come to them: those with a condition or a hit count too, and those of data. What is
+wanted follows from docs/DAP.md and from the states of programs/calls.mixal, which talks.py lists. A run comes to cell 12 (line 6) after 2, 5 and 8 steps,
+where rI1 is 3, 2, 1 and rJ is 0, 15, 15, and to cell 14 (line 8) after 4, 7 and 10 steps, where rI1 is 2, 1, 0. The last line counts."""
 import json
 import os
 import sys
@@ -12,7 +12,8 @@ sys.dont_write_bytecode = True
 sys.path.insert(0, os.path.dirname(os.path.abspath(__file__)))
 
 from client import run
-from frames import DONE, GOOD, framed, launch, texts
+from exact import HI
+from frames import DONE, GOOD, answers, framed, launch, texts
 from talks import AFTER, CALLS, program
 
 ON, BACK, OUT, NEXT = "continue", "reverseContinue", "stepOut", "next"
@@ -113,6 +114,17 @@ BAD_TEXTS = [({"condition": "NOWHERE"}, "no such condition"), ({"condition": "un
 LONG = [(lines((1, "0")), "pause", 1000000), (lines((1, None, "250000")), "breakpoint", 250000), (lines((1, "0"), (1, None, "1000001")), "pause", 1000000),
         (lines((1, None, "100000")), "breakpoint", 100000), (lines((1, None, "1000000")), "breakpoint", 1000000)]
 
+# Of two lines that give a word for the same cell, a breakpoint stays on the second alone.
+TWICE = " NOP\n NOP\n ORIG 0\n NOP\n END 0\n"
+STAYS = '"body":{"breakpoints":[{"line":2},{"line":4}]}'
+MOVED = '"body":{"breakpoints":[{"instructionReference":"0x0000","line":4,"verified":true},{"instructionReference":"0x0006","line":2,"verified":true}]}'
+
+# Programs that are not debugged, and what is told of each after its beginning: it ends by a HLT,
+# by a fault, or not at all. Whatever is asked to stop it is not verified.
+UNDEBUGGED = [(HI, ["output stdout HI\n", "terminated"]), (" CON 197\n END 0\n", ["output stderr M1 no such operation\n", "terminated"]), ("X JMP X\n END X\n", ["stopped pause"])]
+UNVERIFIED = [("setBreakpoints", {"breakpoints": [{"line": 1}]}), ("setInstructionBreakpoints", {"breakpoints": [{"instructionReference": "0"}]}),
+              ("setDataBreakpoints", {"breakpoints": [{"dataId": "cell 3"}]}), ("setExceptionBreakpoints", {"filters": ["conflict"]})]
+
 
 def source_of(path):
     with open(path) as file:
@@ -151,7 +163,7 @@ def long_runs(command, count):
         count.same(f"{points}", stops(command, source, [points, (ON, {"threadId": 1}), ("mix/state", {})]), ([(reason, 0, steps)], GOOD))
 
 
-def answers(command, count):
+def verified(command, count):
     """How a breakpoint is told, of a line and of an instruction."""
     source = source_of(CALLS)
     stands = [{"instructionReference": CELL_12, "line": 6, "verified": True}, {"instructionReference": CELL_12, "verified": True}]
@@ -165,5 +177,25 @@ def answers(command, count):
     count.row("a line without a word is told first", any('"message":"no word from this line on"' in text for text in found), found)
 
 
+def locations(command, count):
+    asked = ("breakpointLocations", {"line": 1, "endLine": 5})
+    found, _ = texts(command, framed(asked, launch(TWICE), asked, ("setBreakpoints", {"breakpoints": [{"line": 1}, {"line": 2}]})))
+    count.row("no line before a launch", '"id":303' in found[0], found)
+    for wanted in (STAYS, MOVED):
+        count.row(wanted, any(wanted in message for message in found), found)
+
+
+def undebugged(command, count):
+    """A program that is not debugged runs to its end."""
+    for source, wanted in UNDEBUGGED:
+        found = answers(command, [launch(source, noDebug=True), *UNVERIFIED, DONE])
+        for seq, (name, _) in enumerate(UNVERIFIED, 2):
+            body = json.loads(found[seq][0])["body"]
+            count.same(f"{source!r}: {name} sets none", body, {"breakpoints": [{"message": "not debugged", "verified": False}]})
+        events = [json.loads(text) for text in found[len(UNVERIFIED) + 2][1:]]
+        told_of = [" ".join([it["event"], *(it.get("body", {}).get(name, "") for name in ("category", "output", "reason") if name in it.get("body", {}))]) for it in events]
+        count.same(f"{source!r} is not debugged", told_of, wanted)
+
+
 if __name__ == "__main__":
-    sys.exit(run(runs, long_runs, answers))
+    sys.exit(run(runs, long_runs, verified, locations, undebugged))
