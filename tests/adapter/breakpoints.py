@@ -198,4 +198,4 @@ def undebugged(command, count):
 
 
 if __name__ == "__main__":
-    sys.exit(run(runs, long_runs, verified, locations, undebugged))
+    run(runs, long_runs, verified, locations, undebugged)

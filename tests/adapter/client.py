@@ -167,9 +167,24 @@ class Client:
         self.count.row(f"{self.name}: numbers of messages", numbers == sorted(set(numbers)), numbers)
 
 
+def talked(talk, **initialize):
+    """The part of a test that has a talk; one that can't go on is a failure."""
+    def part(command, count):
+        client = Client(command, count, talk.__name__)
+        try:
+            client.begin(**initialize)
+            talk(client, count)
+        except Exception as problem:
+            count.row(f"{talk.__name__} goes on", False, f"{type(problem).__name__} {problem}")
+            client.kill()
+    return part
+
+
 def run(*parts):
-    """Runs parts of a test on the adapter that the words of the command line start, and gives the status."""
+    """Runs parts of a test on the adapter that the words of the command line start, and ends with the status, whatever a channel still waits for."""
     count = Count()
     for part in parts:
         part([os.path.abspath(sys.argv[1]), *sys.argv[2:]], count)
-    return count.ended()
+    status = count.ended()
+    sys.stdout.flush()
+    os._exit(status)

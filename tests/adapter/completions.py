@@ -60,4 +60,4 @@ def missing(command, count):
 
 
 if __name__ == "__main__":
-    sys.exit(run(completes, missing))
+    run(completes, missing)

@@ -257,4 +257,4 @@ def checks(command, count):
 
 
 if __name__ == "__main__":
-    sys.exit(run(ends, frames, messages, leads, steps, ahead, views, launches, wrong, conflicts, console, hovers, reports, checks))
+    run(ends, frames, messages, leads, steps, ahead, views, launches, wrong, conflicts, console, hovers, reports, checks)

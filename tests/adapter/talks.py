@@ -29,7 +29,7 @@ sys.dont_write_bytecode = True
 HERE = os.path.dirname(os.path.abspath(__file__))
 sys.path.insert(0, HERE)
 
-from client import Client, run
+from client import run, talked
 
 PROGRAMS = os.path.join(HERE, "programs")
 CALLS = os.path.join(PROGRAMS, "calls.mixal")
@@ -361,7 +361,7 @@ def named(command, count):
             count.same("a step", (talk.move("next"), talk.state()), ("step", AFTER[1]))
             talk.close()
 
-        talked(command, count, at_path)
+        talked(at_path)(command, count)
 
 
 def over_sockets(command, count):
@@ -388,24 +388,5 @@ def over_sockets(command, count):
 TALKS = (steps, halts, subroutine, data, sets, memory, evaluates, gotos, faults, prints, long_runs, refusals, apart, running)
 
 
-def talked(command, count, talk, **initialize):
-    """Has a talk; one that can't go on is a failure."""
-    client = Client(command, count, talk.__name__)
-    try:
-        client.begin(**initialize)
-        talk(client, count)
-    except Exception as problem:
-        count.row(f"{talk.__name__} goes on", False, f"{type(problem).__name__} {problem}")
-        client.kill()
-
-
-def talks(command, count):
-    for talk in TALKS:
-        talked(command, count, talk)
-    talked(command, count, from_zero, linesStartAt1=False, columnsStartAt1=False)
-
-
 if __name__ == "__main__":
-    status = run(talks, named, over_sockets)
-    sys.stdout.flush()
-    os._exit(status)
+    run(*map(talked, TALKS), talked(from_zero, linesStartAt1=False, columnsStartAt1=False), named, over_sockets)
