@@ -11,7 +11,7 @@ import sys
 sys.dont_write_bytecode = True
 sys.path.insert(0, os.path.dirname(os.path.abspath(__file__)))
 
-from client import run
+from client import run, talked
 from exact import HI
 from frames import DONE, GOOD, answers, framed, launch, texts
 from talks import AFTER, CALLS, program
@@ -197,5 +197,44 @@ def undebugged(command, count):
         count.same(f"{source!r} is not debugged", told_of, wanted)
 
 
+def data(talk, count):
+    """A run stops after the step that altered a cell or a register, and a run back where that step is to be done next."""
+    talk.launch(CALLS)
+    page, _ = talk.page(102)
+    info = talk.body("dataBreakpointInfo", variablesReference=page, name="0102")
+    count.row("a cell can be watched", info["dataId"], info)
+    told = talk.body("setDataBreakpoints", breakpoints=[{"dataId": info["dataId"]}])["breakpoints"]
+    count.same("it is verified", [point["verified"] for point in told], [True])
+    count.same("to the cell", (talk.move("continue"), talk.state()), ("data breakpoint", AFTER[6]))
+    talk.move("continue")
+    count.same("never again", talk.state(), AFTER[16])
+    count.same("back to the cell", (talk.move("reverseContinue"), talk.state()), ("data breakpoint", AFTER[5]))
+    info = talk.body("dataBreakpointInfo", variablesReference=talk.scopes()["Registers"], name="A")
+    talk.body("setDataBreakpoints", breakpoints=[{"dataId": info["dataId"]}])
+    # of the steps after the fifth only the fourteenth alters rA, and before it the first
+    count.same("to the register", (talk.move("continue"), talk.state()), ("data breakpoint", AFTER[14]))
+    count.same("back to the register", (talk.move("reverseContinue"), talk.state()), ("data breakpoint", AFTER[13]))
+    count.same("and further", (talk.move("reverseContinue"), talk.state()), ("data breakpoint", AFTER[0]))
+    told = talk.body("setDataBreakpoints", breakpoints=[{"dataId": "no such part"}])["breakpoints"]
+    count.same("what is no part of the machine", [point["verified"] for point in told], [False])
+    talk.close()
+
+
+def apart(talk, count):
+    """Breakpoints are the client's: no change sets or takes one away, and those of another source leave these."""
+    talk.launch(CALLS)
+    talk.lines(CALLS, 6)
+    other = talk.body("setBreakpoints", source={"path": program("fault.mixal")}, breakpoints=[{"line": 1}])["breakpoints"]
+    count.same("a breakpoint in another source", [point["verified"] for point in other], [False])
+    count.same("no change was made", talk.repl("show changes"), "changes 0")
+    count.same("it stands beside those of another source", (talk.move("continue"), talk.state()), ("breakpoint", AFTER[2]))
+    talk.move("restart")
+    count.same("it stands after a restart", (talk.move("continue"), talk.state()), ("breakpoint", AFTER[2]))
+    talk.body("setBreakpoints", source={"path": CALLS}, breakpoints=[])
+    talk.move("continue")
+    count.same("it is gone", talk.state(), AFTER[16])
+    talk.close()
+
+
 if __name__ == "__main__":
-    run(runs, long_runs, verified, locations, undebugged)
+    run(runs, long_runs, verified, locations, undebugged, talked(data), talked(apart))

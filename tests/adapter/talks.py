@@ -23,7 +23,6 @@ import socket
 import subprocess
 import sys
 import tempfile
-import time
 
 sys.dont_write_bytecode = True
 HERE = os.path.dirname(os.path.abspath(__file__))
@@ -98,29 +97,6 @@ def subroutine(talk, count):
     talk.lines(CALLS, 12)
     count.same("into the subroutine", (talk.move("continue"), talk.state()), ("breakpoint", AFTER[13]))
     count.same("stepOut", (talk.move("stepOut"), talk.state()), ("step", AFTER[15]))
-    talk.close()
-
-
-def data(talk, count):
-    """A run stops after the step that altered a cell or a register, and a run back where that step is to be done next."""
-    talk.launch(CALLS)
-    page, _ = talk.page(102)
-    info = talk.body("dataBreakpointInfo", variablesReference=page, name="0102")
-    count.row("a cell can be watched", info["dataId"], info)
-    told = talk.body("setDataBreakpoints", breakpoints=[{"dataId": info["dataId"]}])["breakpoints"]
-    count.same("it is verified", [point["verified"] for point in told], [True])
-    count.same("to the cell", (talk.move("continue"), talk.state()), ("data breakpoint", AFTER[6]))
-    talk.move("continue")
-    count.same("never again", talk.state(), AFTER[16])
-    count.same("back to the cell", (talk.move("reverseContinue"), talk.state()), ("data breakpoint", AFTER[5]))
-    info = talk.body("dataBreakpointInfo", variablesReference=talk.scopes()["Registers"], name="A")
-    talk.body("setDataBreakpoints", breakpoints=[{"dataId": info["dataId"]}])
-    # of the steps after the fifth only the fourteenth alters rA, and before it the first
-    count.same("to the register", (talk.move("continue"), talk.state()), ("data breakpoint", AFTER[14]))
-    count.same("back to the register", (talk.move("reverseContinue"), talk.state()), ("data breakpoint", AFTER[13]))
-    count.same("and further", (talk.move("reverseContinue"), talk.state()), ("data breakpoint", AFTER[0]))
-    told = talk.body("setDataBreakpoints", breakpoints=[{"dataId": "no such part"}])["breakpoints"]
-    count.same("what is no part of the machine", [point["verified"] for point in told], [False])
     talk.close()
 
 
@@ -273,29 +249,6 @@ def prints(talk, count):
     talk.close()
 
 
-def long_runs(talk, count):
-    """A run that comes to no stop pauses after a million changes, forwards and backwards; what the client sends meanwhile is heard then."""
-    talk.launch(program("endless.mixal"))
-    began = time.monotonic()
-    count.same("a long run pauses", talk.move("continue"), "pause")
-    took = time.monotonic() - began
-    print(f"a million steps, and their pause: {1e6 * took:.0f} microseconds")
-    count.row("that is soon", took < 10, took)
-    count.same("each jump took 1 u", talk.state(), (1, 0, 1000000))
-    talk.body("continue", threadId=1)
-    talk.body("pause", threadId=1)
-    count.same("a pause that is sent meanwhile comes after that of the run", [talk.stop()["reason"], talk.stop()["reason"]], ["pause", "pause"])
-    count.same("two million", talk.repl("show changes"), "changes 2000000")
-    for left in (1000000, 0):
-        count.same(f"back to {left}", (talk.move("reverseContinue"), talk.state()), ("pause", (1, 0, left)))
-    count.same("at the start", (talk.move("reverseContinue"), talk.state()), ("entry", (1, 0, 0)))
-    talk.move("continue")
-    count.same("restart after a long run", (talk.move("restart"), talk.state()), ("entry", (1, 0, 0)))
-    talk.body("continue", threadId=1)
-    # disconnect is heard once the run pauses
-    talk.close()
-
-
 def refusals(talk, count):
     """What is refused before and at the launch, with number and text; then a right launch goes on."""
     count.row("a step before the launch", talk.refused("next", threadId=1), "it is accepted")
@@ -310,22 +263,6 @@ def refusals(talk, count):
     count.row("no such request after the launch", talk.refused("fly"), "it is accepted")
     count.row("no such variables", talk.refused("variables", variablesReference=99999), "it is accepted")
     count.same("the state", talk.state(), AFTER[0])
-    talk.close()
-
-
-def apart(talk, count):
-    """Breakpoints are the client's: no change sets or takes one away, and those of another source leave these."""
-    talk.launch(CALLS)
-    talk.lines(CALLS, 6)
-    other = talk.body("setBreakpoints", source={"path": program("fault.mixal")}, breakpoints=[{"line": 1}])["breakpoints"]
-    count.same("a breakpoint in another source", [point["verified"] for point in other], [False])
-    count.same("no change was made", talk.repl("show changes"), "changes 0")
-    count.same("it stands beside those of another source", (talk.move("continue"), talk.state()), ("breakpoint", AFTER[2]))
-    talk.move("restart")
-    count.same("it stands after a restart", (talk.move("continue"), talk.state()), ("breakpoint", AFTER[2]))
-    talk.body("setBreakpoints", source={"path": CALLS}, breakpoints=[])
-    talk.move("continue")
-    count.same("it is gone", talk.state(), AFTER[16])
     talk.close()
 
 
@@ -385,7 +322,7 @@ def over_sockets(command, count):
         count.row("sockets: status at the end", False, "it did not end")
 
 
-TALKS = (steps, halts, subroutine, data, sets, memory, evaluates, gotos, faults, prints, long_runs, refusals, apart, running)
+TALKS = (steps, halts, subroutine, sets, memory, evaluates, gotos, faults, prints, refusals, running)
 
 
 if __name__ == "__main__":

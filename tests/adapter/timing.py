@@ -1,8 +1,9 @@
 #!/usr/bin/env python3
-"""How long a step with its three views takes: tests/adapter/timing.py PROGRAM [WORD..]
+"""How long a step with its three views takes, and a run of a million steps: tests/adapter/timing.py PROGRAM [WORD..]
 
 `next` and its stop, then stackTrace, scopes and variables, one after the other over pipes, as an editor asks for them. Of ten batches of 100 the
-median of the best is printed. A millisecond is what an editor is promised; only ten of them fail, since computers differ. The last line counts."""
+median of the best is printed. A millisecond is what an editor is promised; only ten of them fail, since computers differ. A run of a
+million steps is to pause within ten seconds. The last line counts."""
 import json
 import os
 import statistics
@@ -11,11 +12,11 @@ import sys
 import time
 
 sys.dont_write_bytecode = True
-HERE = os.path.dirname(os.path.abspath(__file__))
-sys.path.insert(0, HERE)
+sys.path.insert(0, os.path.dirname(os.path.abspath(__file__)))
 
-from client import Count
+from client import run, talked
 from frames import frame, request
+from talks import program
 
 MOST = 10_000  # microseconds
 
@@ -45,10 +46,10 @@ class Talk:
         self.ask("variables", variablesReference=1)
 
 
-def main():
-    count, talk = Count(), Talk(sys.argv[1:])
+def steps(command, count):
+    talk = Talk(command)
     talk.ask("initialize", adapterID="mixrev")
-    talk.ask("launch", "initialized", program=os.path.join(HERE, "programs", "endless.mixal"), stopOnEntry=True)
+    talk.ask("launch", "initialized", program=program("endless.mixal"), stopOnEntry=True)
     talk.ask("configurationDone", "stopped")
     medians = []
     for _ in range(10):
@@ -64,8 +65,30 @@ def main():
     print(f"a step with its three views: {min(medians):.0f} microseconds")
     talk.process.stdin.close()
     count.same("status at the end", talk.process.wait(10), 0)
-    return count.ended()
+
+
+def long_runs(talk, count):
+    """A run that comes to no stop pauses after a million changes, forwards and backwards; what the client sends meanwhile is heard then."""
+    talk.launch(program("endless.mixal"))
+    began = time.monotonic()
+    count.same("a long run pauses", talk.move("continue"), "pause")
+    took = time.monotonic() - began
+    print(f"a million steps, and their pause: {1e6 * took:.0f} microseconds")
+    count.row("that is soon", took < 10, took)
+    count.same("each jump took 1 u", talk.state(), (1, 0, 1000000))
+    talk.body("continue", threadId=1)
+    talk.body("pause", threadId=1)
+    count.same("a pause that is sent meanwhile comes after that of the run", [talk.stop()["reason"], talk.stop()["reason"]], ["pause", "pause"])
+    count.same("two million", talk.repl("show changes"), "changes 2000000")
+    for left in (1000000, 0):
+        count.same(f"back to {left}", (talk.move("reverseContinue"), talk.state()), ("pause", (1, 0, left)))
+    count.same("at the start", (talk.move("reverseContinue"), talk.state()), ("entry", (1, 0, 0)))
+    talk.move("continue")
+    count.same("restart after a long run", (talk.move("restart"), talk.state()), ("entry", (1, 0, 0)))
+    talk.body("continue", threadId=1)
+    # disconnect is heard once the run pauses
+    talk.close()
 
 
 if __name__ == "__main__":
-    sys.exit(main())
+    run(steps, talked(long_runs))
