@@ -210,26 +210,6 @@ def console(command, count):
     where(command, count, "console", [launch(TYPED)])
 
 
-def hovers(command, count):
-    """A hover over an operation says what docs/operations.tsv says of it; a watch, and any other name, does not."""
-    with open(os.path.join(HERE, os.pardir, os.pardir, "docs", "operations.tsv")) as file:
-        rows = [line.rstrip("\n").split("\t") for line in file][1:]
-    wanted = {}
-    for name, *_, sentence in rows:
-        sentence = re.sub(r"{([VMF])}", r"\1", sentence).replace("{cell}", "cell M").replace("{line}", "M")
-        for short, register in (("A", "rA"), ("X", "rX"), *((str(n), f"rI{n}") for n in range(1, 7))) if "r" in name else (("", ""),):
-            wanted[name.replace("r", short)] = sentence.replace("{r}", register)
-    asked = [("evaluate", {"expression": f" {name} ", "context": "hover"}) for name in wanted]
-    found = [json.loads(text) for text in texts(command, framed(launch(SOURCE), DONE, *asked))[0]]
-    same = [message["body"].get("result") for message in found if message.get("command") == "evaluate"]
-    count.same("hovers over operations", dict(zip(wanted, same, strict=True)), wanted)
-    for given in ({"expression": "LDA", "context": "watch"}, {"expression": "LDA"}, {"expression": "FADD", "context": "hover"}, {"expression": "LDA 5", "context": "hover"}):
-        found = texts(command, framed(launch(SOURCE), DONE, ("evaluate", given)))[0]
-        count.row(f"{given}", '"id":202' in found[-1], found)
-    found = texts(command, framed(launch("LDA EQU 5\n END 0\n"), DONE, asked[[*wanted].index("LDA")]))[0]
-    count.row("a symbol comes before an operation", '"result":"+ 00 00 00 00 05 = 5"' in found[-1], found)
-
-
 def reports(command, count):
     """A launch tells the report that `mixrev check` writes, after its answer and before all else, and nothing of a source without a fault or a warning."""
     for source in CHECKED:
@@ -257,4 +237,4 @@ def checks(command, count):
 
 
 if __name__ == "__main__":
-    run(ends, frames, messages, leads, steps, ahead, views, launches, wrong, conflicts, console, hovers, reports, checks)
+    run(ends, frames, messages, leads, steps, ahead, views, launches, wrong, conflicts, console, reports, checks)

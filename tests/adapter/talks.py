@@ -17,7 +17,6 @@ row after each step: n steps done, the location, the clock (1 u for ENTA, ENT1, 
 
 Its lines 3 and 4 give cells 10 and 11, line 5 is blank, lines 6 to 13 give cells 12 to 19, and line 14 is END.
 The last line counts."""
-import base64
 import os
 import socket
 import subprocess
@@ -97,107 +96,6 @@ def subroutine(talk, count):
     talk.lines(CALLS, 12)
     count.same("into the subroutine", (talk.move("continue"), talk.state()), ("breakpoint", AFTER[13]))
     count.same("stepOut", (talk.move("stepOut"), talk.state()), ("step", AFTER[15]))
-    talk.close()
-
-
-def sets(talk, count):
-    """A set is a change, which is seen at once and taken back by one step back; one that is refused changes nothing."""
-    talk.launch(CALLS)
-    talk.move("next")
-    registers = talk.scopes()["Registers"]
-    count.same("set rA", talk.body("setVariable", variablesReference=registers, name="A", value="-0")["value"][:16], "- 00 00 00 00 00")
-    count.same("set a register by a W-value", talk.body("setVariable", variablesReference=registers, name="X", value="LOOP,1(1:1)")["value"][:16],
-               "+ 01 00 00 00 12")
-    text = talk.refused("setVariable", variablesReference=registers, name="I1", value="4096")
-    count.row("a set that the machine refuses", "C5 refused by the machine: M7 index overflow" in text, text)
-    text = talk.refused("setVariable", variablesReference=registers, name="A", value="NOWHERE")
-    count.row("a set that is no W-value", "C2 bad argument" in text, text)
-    count.same("the changes are the step and two sets", talk.repl("show changes"), "changes 3")
-    page, cell = talk.page(100)
-    count.same("set a cell", talk.body("setVariable", variablesReference=page, name="0100", value="5,1(4:4)")["value"][:16], "+ 00 00 00 01 05")
-    flags = talk.scopes()["Flags"]
-    for name, value in (("over", "on"), ("cmp", "G"), ("loc", "17")):
-        talk.body("setVariable", variablesReference=flags, name=name, value=value)
-    count.same("the flags", {name: talk.values("Flags")[name] for name in ("over", "cmp")}, {"over": "on", "cmp": "G"})
-    count.same("the location", talk.state(), (11, 17, 1))
-    for _ in range(4):
-        talk.move("stepBack")
-    count.same("the cell is taken back", talk.page(100)[1]["value"][:16], "+ 00 00 00 00 00")
-    count.same("rA stands yet", talk.values("Registers")["A"][:16], "- 00 00 00 00 00")
-    talk.move("stepBack")
-    talk.move("stepBack")
-    count.same("rA is taken back", talk.values("Registers")["A"][:16], "+ 00 00 00 00 05")
-    count.same("the state is that of the step", talk.state(), AFTER[1])
-    talk.close()
-
-
-def word_bytes(text):
-    """The six bytes of a word: 0 or 1 for its sign, and its five bytes."""
-    sign, *rest = text.split()
-    return bytes([sign == "-", *(int(part) for part in rest)])
-
-
-def memory(talk, count):
-    """Memory is read and written as six bytes a cell, and disassembled."""
-    talk.launch(CALLS)
-    reference = talk.page(12)[1]["memoryReference"]
-    # ENT1 3 is 0 3 0 2 49; STA 100,1 has the address 100 = 1*64 + 36, the index 1, F 5 and C 24;
-    # DEC1 1 is 0 1 0 1 49
-    read = talk.body("readMemory", memoryReference=reference, offset=-6, count=18)
-    count.same("readMemory", base64.b64decode(read["data"]), word_bytes("+ 00 03 00 02 49") + word_bytes("+ 01 36 01 05 24") + word_bytes("+ 00 01 00 01 49"))
-    last = talk.page(3999)[1]["memoryReference"]
-    read = talk.body("readMemory", memoryReference=last, count=10)
-    count.same("readMemory past the end", (base64.b64decode(read.get("data", "")), read.get("unreadableBytes")), (bytes(6), 4))
-    changed = word_bytes("- 63 00 01 02 03")
-    talk.body("writeMemory", memoryReference=last, data=base64.b64encode(changed).decode())
-    count.same("writeMemory", talk.page(3999)[1]["value"][:16], "- 63 00 01 02 03")
-    text = talk.refused("writeMemory", memoryReference=last, data=base64.b64encode(bytes([0, 64, 0, 0, 0, 0])).decode())
-    count.row("a byte over 63 is refused", text, "it is not")
-    text = talk.refused("writeMemory", memoryReference=last, data=base64.b64encode(bytes([2, 0, 0, 0, 0, 0])).decode())
-    count.row("a sign that is neither 0 nor 1 is refused", text, "it is not")
-    # an offset that is no whole number of 64 bits is refused, and nothing is written
-    for offset in ("6", 1e30, 10**19, 2.5, [], True):
-        text = talk.refused("writeMemory", memoryReference=last, offset=offset, data=base64.b64encode(changed).decode())
-        count.same(f"an offset {offset!r}", text, "Q2 bad argument")
-    text = talk.refused("writeMemory", memoryReference=last, data="?")
-    count.row("what is no base64 is refused", text, "it is not")
-    count.same("what is refused changes nothing", talk.repl("show changes"), "changes 1")
-    told = talk.body("disassemble", memoryReference=reference, instructionOffset=-1, instructionCount=3)["instructions"]
-    count.same("disassemble", [instruction["instruction"] for instruction in told], ["ENT1 3", "STA 100,1", "DEC1 1"])
-    count.same("its lines", [instruction.get("line") for instruction in told], [4, 6, 7])
-    count.same("its references", [told[1]["address"], told[0]["address"]], [reference, talk.page(11)[1]["memoryReference"]])
-    told = talk.body("disassemble", memoryReference=last, instructionOffset=0, instructionCount=3)["instructions"]
-    count.same("as many as asked, also past the end", len(told), 3)
-    told = talk.body("setInstructionBreakpoints", breakpoints=[{"instructionReference": talk.page(14)[1]["memoryReference"]}])["breakpoints"]
-    count.same("an instruction breakpoint", (told[0]["verified"], talk.move("continue"), talk.state()), (True, "instruction breakpoint", AFTER[4]))
-    talk.close()
-
-
-def evaluates(talk, count):
-    """W-values in hover and watch, commands of the script in the repl; a command of the repl moves the same timeline."""
-    talk.launch(CALLS)
-    talk.move("next")
-    for context in ("hover", "watch"):
-        found = talk.body("evaluate", expression="LOOP", context=context)["result"]
-        count.row(f"{context} of a symbol", "+ 00 00 00 00 12" in found, found)
-    found = talk.body("evaluate", expression="LOOP+1*2", context="watch")["result"]
-    count.row("watch of an expression, from left to right", "+ 00 00 00 00 26" in found, found)
-    found = talk.body("evaluate", expression="1,-1000(0:2)", context="watch")["result"]
-    count.row("watch of the W-value of the book", "- 15 40 00 00 01" in found, found)
-    found = talk.body("evaluate", expression="A", context="hover")["result"]
-    count.row("hover of a register", "+ 00 00 00 00 05" in found, found)
-    for expression, wanted in (("rA", "+ 00 00 00 00 05 = 5"), ("I1", "+ 00 00 = 0"), ("rI1", "+ 00 00 = 0"), ("over", "off"), ("cmp", "E"), ("loc", "0011"), ("clock", "1"),
-                               ("cell LOOP", "+ 01 36 01 05 24 = 26218840"), ("cell *", "+ 00 03 00 02 49 = 786609")):
-        count.same(f"watch of {expression}", talk.body("evaluate", expression=expression, context="watch")["result"], wanted)
-    for context, expression in (("hover", "unit 16"), ("watch", "cell 4000"), ("watch", "cell"), ("watch", "rB"), ("watch", "r"), ("hover", "NOWHERE"), ("watch", "1+"), ("repl", "jump"), ("repl", "back 0"), ("repl", "set I1 4096"), ("watch", "\u00e9\u4e16")):
-        count.row(f"{context} of {expression} is refused", talk.refused("evaluate", expression=expression, context=context), "it is not")
-    found = talk.body("completions", text="break lo", column=9, line=1, frameId=1)["targets"]
-    count.same("a line may go on", found, [{"label": "LOOP", "start": 7, "length": 2}])
-    count.same("a command", talk.repl("step 2"), "ran 2 to 0013 clock 4: limit")
-    count.same("it moved", talk.state(), AFTER[3])
-    count.same("a reply of many lines", talk.repl("show cells 12 13"), "0012 + 01 36 01 05 24\n0013 + 00 01 00 01 49")
-    talk.body("evaluate", expression="back until A", context="repl")
-    count.same("back by a command", talk.state(), AFTER[0])
     talk.close()
 
 
@@ -322,7 +220,7 @@ def over_sockets(command, count):
         count.row("sockets: status at the end", False, "it did not end")
 
 
-TALKS = (steps, halts, subroutine, sets, memory, evaluates, gotos, faults, prints, refusals, running)
+TALKS = (steps, halts, subroutine, gotos, faults, prints, refusals, running)
 
 
 if __name__ == "__main__":

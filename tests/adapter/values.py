@@ -1,0 +1,189 @@
+#!/usr/bin/env python3
+"""Values of the machine, asked for and set: tests/adapter/values.py PROGRAM [WORD..]
+
+By variables, as bytes of the memory and by expressions, what a hover says, and how a line of the console may go on. Every answer is worked out by hand from
+docs/DAP.md and the commands of docs/FORMATS.md, for the program that talks.py describes. The last line counts."""
+import base64
+import json
+import os
+import re
+import sys
+
+sys.dont_write_bytecode = True
+HERE = os.path.dirname(os.path.abspath(__file__))
+sys.path.insert(0, HERE)
+
+from client import run, talked
+from frames import DONE, GOOD, framed, launch, texts
+from talks import AFTER, CALLS
+
+# The text of a line, the column of the cursor, the words, and the column and the length of the word
+# that they complete. The symbols of the program get their values in this order: two by their lines,
+# and LAST, which none defines, at END.
+SYMBOLS = "LIST EQU 100\nLOOP LDA LIST\n STA LAST\n HLT\n END LOOP\n"
+COMMANDS = ["step", "run", "back", "forth", "goto", "set", "break", "clear", "show", "trace"]
+PARTS = ["A", "X", "I1", "I2", "I3", "I4", "I5", "I6", "J", "cell", "loc", "over", "cmp"]
+NAMES = ["LIST", "LOOP", "LAST"]
+COMPLETED = [
+    ("", 1, COMMANDS, 1, 0), ("  ", 3, COMMANDS, 3, 0), ("s", 2, ["step", "set", "show"], 1, 1), ("S", 2, ["step", "set", "show"], 1, 1), ("step", 5, ["step"], 1, 4),
+    ("fly", 4, [], 1, 3), ("fly ", 5, [], 5, 0), ("step ", 6, [], 6, 0), ("trace ", 7, [], 7, 0), ("goto ", 6, [], 6, 0), ("*", 2, [], 1, 1),
+    ("run ", 5, [], 5, 0), ("run 5 ", 7, ["until"], 7, 0), ("run 5 until ", 13, [*PARTS, "unit", "conflict"], 13, 0), ("RUN 5 UNTIL C", 14, ["cell", "cmp", "conflict"], 13, 1),
+    ("run 5 at ", 10, [], 10, 0), ("run 5 until cell l", 19, NAMES, 18, 1), ("run 5 until A ", 15, ["or"], 15, 0), ("run 5 until unit ", 18, [], 18, 0),
+    ("run 5 until unit 18 ", 21, ["or"], 21, 0), ("run 5 until A or c", 19, ["cell", "cmp", "conflict"], 18, 1), ("show writes A ", 15, [], 15, 0),
+    ("back ", 6, ["all", "break", "until"], 6, 0), ("back until loc lo", 18, ["LOOP"], 16, 2), ("back all ", 10, [], 10, 0), ("back 3 ", 8, [], 8, 0),
+    ("forth ", 7, ["all", "until"], 7, 0), ("forth until o", 14, ["over"], 13, 1), ("forth all ", 11, [], 11, 0),
+    ("set ", 5, PARTS, 5, 0), ("set i", 6, ["I1", "I2", "I3", "I4", "I5", "I6"], 5, 1), ("set A ", 7, NAMES, 7, 0), ("set A LIST ", 12, [], 12, 0),
+    ("set cell ", 10, NAMES, 10, 0), ("set cell LIST l", 16, NAMES, 15, 1), ("set cell LIST LOOP ", 20, [], 20, 0), ("set loc ", 9, NAMES, 9, 0),
+    ("set over ", 10, ["on", "off"], 10, 0), ("set over of", 12, ["off"], 10, 2), ("set over on ", 13, [], 13, 0), ("set cmp ", 9, ["L", "E", "G"], 9, 0),
+    ("break ", 7, ["line", *NAMES], 7, 0), ("clear li", 9, ["line", "LIST"], 7, 2), ("break line ", 12, [], 12, 0),
+    ("show c", 7, ["cells", "clock", "changes", "code", "counts", "conflicts"], 6, 1), ("show cells ", 12, NAMES, 12, 0), ("show code LIST ", 16, NAMES, 16, 0),
+    ("show values LIST LAST ", 23, [], 23, 0), ("show value L", 13, NAMES, 12, 1), ("show value 1+L", 15, [], 12, 3), ("show unit ", 11, [], 11, 0),
+    # a cursor within the text, before it, past its end; a tab; letters of two bytes on both sides
+    ("show values", 3, ["show"], 1, 2), ("st", 0, COMMANDS, 1, 0), ("st", 99, ["step"], 1, 2), ("\tst", 4, ["step"], 2, 2), ("st\u00e9", 3, ["step"], 1, 2),
+    ("\u00e9 st", 5, [], None, None)]
+
+
+def sets(talk, count):
+    """A set is a change, which is seen at once and taken back by one step back; one that is refused changes nothing."""
+    talk.launch(CALLS)
+    talk.move("next")
+    registers = talk.scopes()["Registers"]
+    count.same("set rA", talk.body("setVariable", variablesReference=registers, name="A", value="-0")["value"][:16], "- 00 00 00 00 00")
+    count.same("set a register by a W-value", talk.body("setVariable", variablesReference=registers, name="X", value="LOOP,1(1:1)")["value"][:16],
+               "+ 01 00 00 00 12")
+    text = talk.refused("setVariable", variablesReference=registers, name="I1", value="4096")
+    count.row("a set that the machine refuses", "C5 refused by the machine: M7 index overflow" in text, text)
+    text = talk.refused("setVariable", variablesReference=registers, name="A", value="NOWHERE")
+    count.row("a set that is no W-value", "C2 bad argument" in text, text)
+    count.same("the changes are the step and two sets", talk.repl("show changes"), "changes 3")
+    page, cell = talk.page(100)
+    count.same("set a cell", talk.body("setVariable", variablesReference=page, name="0100", value="5,1(4:4)")["value"][:16], "+ 00 00 00 01 05")
+    flags = talk.scopes()["Flags"]
+    for name, value in (("over", "on"), ("cmp", "G"), ("loc", "17")):
+        talk.body("setVariable", variablesReference=flags, name=name, value=value)
+    count.same("the flags", {name: talk.values("Flags")[name] for name in ("over", "cmp")}, {"over": "on", "cmp": "G"})
+    count.same("the location", talk.state(), (11, 17, 1))
+    for _ in range(4):
+        talk.move("stepBack")
+    count.same("the cell is taken back", talk.page(100)[1]["value"][:16], "+ 00 00 00 00 00")
+    count.same("rA stands yet", talk.values("Registers")["A"][:16], "- 00 00 00 00 00")
+    talk.move("stepBack")
+    talk.move("stepBack")
+    count.same("rA is taken back", talk.values("Registers")["A"][:16], "+ 00 00 00 00 05")
+    count.same("the state is that of the step", talk.state(), AFTER[1])
+    talk.close()
+
+
+def word_bytes(text):
+    """The six bytes of a word: 0 or 1 for its sign, and its five bytes."""
+    sign, *rest = text.split()
+    return bytes([sign == "-", *(int(part) for part in rest)])
+
+
+def memory(talk, count):
+    """Memory is read and written as six bytes a cell, and disassembled."""
+    talk.launch(CALLS)
+    reference = talk.page(12)[1]["memoryReference"]
+    # ENT1 3 is 0 3 0 2 49; STA 100,1 has the address 100 = 1*64 + 36, the index 1, F 5 and C 24;
+    # DEC1 1 is 0 1 0 1 49
+    read = talk.body("readMemory", memoryReference=reference, offset=-6, count=18)
+    count.same("readMemory", base64.b64decode(read["data"]), word_bytes("+ 00 03 00 02 49") + word_bytes("+ 01 36 01 05 24") + word_bytes("+ 00 01 00 01 49"))
+    last = talk.page(3999)[1]["memoryReference"]
+    read = talk.body("readMemory", memoryReference=last, count=10)
+    count.same("readMemory past the end", (base64.b64decode(read.get("data", "")), read.get("unreadableBytes")), (bytes(6), 4))
+    changed = word_bytes("- 63 00 01 02 03")
+    talk.body("writeMemory", memoryReference=last, data=base64.b64encode(changed).decode())
+    count.same("writeMemory", talk.page(3999)[1]["value"][:16], "- 63 00 01 02 03")
+    text = talk.refused("writeMemory", memoryReference=last, data=base64.b64encode(bytes([0, 64, 0, 0, 0, 0])).decode())
+    count.row("a byte over 63 is refused", text, "it is not")
+    text = talk.refused("writeMemory", memoryReference=last, data=base64.b64encode(bytes([2, 0, 0, 0, 0, 0])).decode())
+    count.row("a sign that is neither 0 nor 1 is refused", text, "it is not")
+    # an offset that is no whole number of 64 bits is refused, and nothing is written
+    for offset in ("6", 1e30, 10**19, 2.5, [], True):
+        text = talk.refused("writeMemory", memoryReference=last, offset=offset, data=base64.b64encode(changed).decode())
+        count.same(f"an offset {offset!r}", text, "Q2 bad argument")
+    text = talk.refused("writeMemory", memoryReference=last, data="?")
+    count.row("what is no base64 is refused", text, "it is not")
+    count.same("what is refused changes nothing", talk.repl("show changes"), "changes 1")
+    told = talk.body("disassemble", memoryReference=reference, instructionOffset=-1, instructionCount=3)["instructions"]
+    count.same("disassemble", [instruction["instruction"] for instruction in told], ["ENT1 3", "STA 100,1", "DEC1 1"])
+    count.same("its lines", [instruction.get("line") for instruction in told], [4, 6, 7])
+    count.same("its references", [told[1]["address"], told[0]["address"]], [reference, talk.page(11)[1]["memoryReference"]])
+    told = talk.body("disassemble", memoryReference=last, instructionOffset=0, instructionCount=3)["instructions"]
+    count.same("as many as asked, also past the end", len(told), 3)
+    told = talk.body("setInstructionBreakpoints", breakpoints=[{"instructionReference": talk.page(14)[1]["memoryReference"]}])["breakpoints"]
+    count.same("an instruction breakpoint", (told[0]["verified"], talk.move("continue"), talk.state()), (True, "instruction breakpoint", AFTER[4]))
+    talk.close()
+
+
+def evaluates(talk, count):
+    """W-values in hover and watch, commands of the script in the repl; a command of the repl moves the same timeline."""
+    talk.launch(CALLS)
+    talk.move("next")
+    for context in ("hover", "watch"):
+        found = talk.body("evaluate", expression="LOOP", context=context)["result"]
+        count.row(f"{context} of a symbol", "+ 00 00 00 00 12" in found, found)
+    found = talk.body("evaluate", expression="LOOP+1*2", context="watch")["result"]
+    count.row("watch of an expression, from left to right", "+ 00 00 00 00 26" in found, found)
+    found = talk.body("evaluate", expression="1,-1000(0:2)", context="watch")["result"]
+    count.row("watch of the W-value of the book", "- 15 40 00 00 01" in found, found)
+    found = talk.body("evaluate", expression="A", context="hover")["result"]
+    count.row("hover of a register", "+ 00 00 00 00 05" in found, found)
+    for expression, wanted in (("rA", "+ 00 00 00 00 05 = 5"), ("I1", "+ 00 00 = 0"), ("rI1", "+ 00 00 = 0"), ("over", "off"), ("cmp", "E"), ("loc", "0011"), ("clock", "1"),
+                               ("cell LOOP", "+ 01 36 01 05 24 = 26218840"), ("cell *", "+ 00 03 00 02 49 = 786609")):
+        count.same(f"watch of {expression}", talk.body("evaluate", expression=expression, context="watch")["result"], wanted)
+    for context, expression in (("hover", "unit 16"), ("watch", "cell 4000"), ("watch", "cell"), ("watch", "rB"), ("watch", "r"), ("hover", "NOWHERE"), ("watch", "1+"), ("repl", "jump"), ("repl", "back 0"), ("repl", "set I1 4096"), ("watch", "\u00e9\u4e16")):
+        count.row(f"{context} of {expression} is refused", talk.refused("evaluate", expression=expression, context=context), "it is not")
+    found = talk.body("completions", text="break lo", column=9, line=1, frameId=1)["targets"]
+    count.same("a line may go on", found, [{"label": "LOOP", "start": 7, "length": 2}])
+    count.same("a command", talk.repl("step 2"), "ran 2 to 0013 clock 4: limit")
+    count.same("it moved", talk.state(), AFTER[3])
+    count.same("a reply of many lines", talk.repl("show cells 12 13"), "0012 + 01 36 01 05 24\n0013 + 00 01 00 01 49")
+    talk.body("evaluate", expression="back until A", context="repl")
+    count.same("back by a command", talk.state(), AFTER[0])
+    talk.close()
+
+
+def hovers(command, count):
+    """A hover over an operation says what docs/operations.tsv says of it; a watch, and any other name, does not."""
+    with open(os.path.join(HERE, os.pardir, os.pardir, "docs", "operations.tsv")) as file:
+        rows = [line.rstrip("\n").split("\t") for line in file][1:]
+    wanted = {}
+    for name, *_, sentence in rows:
+        sentence = re.sub(r"{([VMF])}", r"\1", sentence).replace("{cell}", "cell M").replace("{line}", "M")
+        for short, register in (("A", "rA"), ("X", "rX"), *((str(n), f"rI{n}") for n in range(1, 7))) if "r" in name else (("", ""),):
+            wanted[name.replace("r", short)] = sentence.replace("{r}", register)
+    asked = [("evaluate", {"expression": f" {name} ", "context": "hover"}) for name in wanted]
+    found = [json.loads(text) for text in texts(command, framed(launch(SYMBOLS), DONE, *asked))[0]]
+    same = [message["body"].get("result") for message in found if message.get("command") == "evaluate"]
+    count.same("hovers over operations", dict(zip(wanted, same, strict=True)), wanted)
+    for given in ({"expression": "LDA", "context": "watch"}, {"expression": "LDA"}, {"expression": "FADD", "context": "hover"}, {"expression": "LDA 5", "context": "hover"}):
+        found = texts(command, framed(launch(SYMBOLS), DONE, ("evaluate", given)))[0]
+        count.row(f"{given}", '"id":202' in found[-1], found)
+    found = texts(command, framed(launch("LDA EQU 5\n END 0\n"), DONE, asked[[*wanted].index("LDA")]))[0]
+    count.row("a symbol comes before an operation", '"result":"+ 00 00 00 00 05 = 5"' in found[-1], found)
+
+
+def completes(command, count):
+    """Each line, whether columns are counted from 1 or from 0."""
+    for first in (1, 0):
+        asked = [("completions", {"text": text, "column": column - 1 + first}) for text, column, *_ in COMPLETED if column - 1 + first >= 0]
+        found, ended = texts(command, framed(("initialize", {"columnsStartAt1": first == 1}), launch(SYMBOLS), DONE, *asked))
+        answers = [message["body"] for message in map(json.loads, found) if message.get("command") == "completions"]
+        wanted = [{"targets": [{"label": label, "start": start - 1 + first, "length": length} for label in labels]}
+                  for _, column, labels, start, length in COMPLETED if column - 1 + first >= 0]
+        count.same("how lines may go on", (len(answers), ended), (len(asked), GOOD))
+        for (_, given), answer, right in zip(asked, answers, wanted):
+            count.same(f"{given}, columns from {first} on", answer, right)
+
+
+def missing(command, count):
+    """Neither the text nor the column may be missing, nor the program."""
+    asked = [("completions", {"text": "st"}), ("completions", {"column": 1}), ("completions", {"text": 5, "column": 1}), ("completions", {"text": "st", "column": "3"})]
+    found, _ = texts(command, framed(asked[0], launch(SYMBOLS), *asked))
+    numbers = [message["body"]["error"]["id"] for message in map(json.loads, found) if message.get("command") == "completions"]
+    count.same("what is missing", numbers, [303, 302, 302, 302, 302])
+
+
+if __name__ == "__main__":
+    run(*map(talked, (sets, memory, evaluates)), hovers, completes, missing)
