@@ -33,6 +33,11 @@ def at_12(**given):
     return "setInstructionBreakpoints", {"breakpoints": [{"instructionReference": CELL_12, **given}]}
 
 
+def watched(part):
+    """A breakpoint of a part of the machine."""
+    return "setDataBreakpoints", {"breakpoints": [{"dataId": part}]}
+
+
 def put(scope, name, value):
     return "setVariable", {"variablesReference": scope, "name": name, "value": value}
 
@@ -95,20 +100,19 @@ RUNS = [
     ([lines((12,), (13, "0"))], [(ON, "breakpoint", 13), (OUT, "step", 15)]),
     # data breakpoints and a halt end a run also beside one that does not stop: the step to cell 13
     # alters cell 103, and HLT leads to 17
-    ([lines((7, "0")), ("setDataBreakpoints", {"breakpoints": [{"dataId": "cell 103"}]})], ons(("data breakpoint", 3), END)), ([lines((11, "0"))], ons(END)),
+    ([lines((7, "0")), watched("cell 103")], ons(("data breakpoint", 3), END)), ([lines((11, "0"))], ons(END)),
     # and these arrivals are counted too: the first of cell 13, and the second of cell 17 after
     # that by JMP SUB, so the next one there is the third
-    ([lines((7, None, "2")), ("setDataBreakpoints", {"breakpoints": [{"dataId": "cell 103"}]})], ons(("data breakpoint", 3), ("breakpoint", 6), ("breakpoint", 9), END)),
+    ([lines((7, None, "2")), watched("cell 103")], ons(("data breakpoint", 3), ("breakpoint", 6), ("breakpoint", 9), END)),
     ([lines((11, None, "3"))], [(ON, *END), (BACK, "breakpoint", 12)]), ([lines((11, None, "4"))], [(ON, *END), (BACK, "entry", 0)]),
 ]
 
 # What is told of a breakpoint of line 6 and of one in cell 12: whether it stands, or why not.
-GOOD_TEXTS = [{}, {"condition": "rA"}, {"condition": "cell *+1"}, {"condition": " "}, {"condition": "-0"}, {"condition": "rA > 3"}, {"condition": "cell *+1<>rJ"}, {"hitCondition": "1"}, {"hitCondition": "999999999999999999"},
-              {"hitCondition": ""}, {"condition": "over", "hitCondition": "007"}]
-BAD_TEXTS = [({"condition": "NOWHERE"}, "no such condition"), ({"condition": "unit 16"}, "no such condition"), ({"condition": "cell 4000"}, "no such condition"),
-             ({"condition": "rA > "}, "no such condition"), ({"condition": "3 < unit 16"}, "no such condition"), ({"condition": "rB", "hitCondition": "0"}, "no such condition"), ({"hitCondition": "0"}, "no such hit count"),
-             ({"hitCondition": "000"}, "no such hit count"), ({"hitCondition": "-1"}, "no such hit count"), ({"hitCondition": ">=3"}, "no such hit count"),
-             ({"hitCondition": "3 "}, "no such hit count"), ({"hitCondition": "1000000000000000000"}, "no such hit count"), ({"condition": "1", "hitCondition": "x"}, "no such hit count")]
+GOOD_TEXTS = [{}, *({"condition": text} for text in ("rA", "cell *+1", " ", "-0", "rA > 3", "cell *+1<>rJ")),
+              *({"hitCondition": text} for text in ("1", "999999999999999999", "")), {"condition": "over", "hitCondition": "007"}]
+BAD_TEXTS = [*(({"condition": text}, "no such condition") for text in ("NOWHERE", "unit 16", "cell 4000", "rA > ", "3 < unit 16")),
+             ({"condition": "rB", "hitCondition": "0"}, "no such condition"), ({"condition": "1", "hitCondition": "x"}, "no such hit count"),
+             *(({"hitCondition": text}, "no such hit count") for text in ("0", "000", "-1", ">=3", "3 ", "1000000000000000000"))]
 
 # A jump to itself: a run pauses after a million steps, and passes as many breakpoints before that.
 LONG = [(lines((1, "0")), "pause", 1000000), (lines((1, None, "250000")), "breakpoint", 250000), (lines((1, "0"), (1, None, "1000001")), "pause", 1000000),
@@ -121,9 +125,10 @@ MOVED = '"body":{"breakpoints":[{"instructionReference":"0x0000","line":4,"verif
 
 # Programs that are not debugged, and what is told of each after its beginning: it ends by a HLT,
 # by a fault, or not at all. Whatever is asked to stop it is not verified.
-UNDEBUGGED = [(HI, ["output stdout HI\n", "terminated"]), (" CON 197\n END 0\n", ["output stderr M1 no such operation\n", "terminated"]), ("X JMP X\n END X\n", ["stopped pause"])]
+UNDEBUGGED = [(HI, ["output stdout HI\n", "terminated"]), (" CON 197\n END 0\n", ["output stderr M1 no such operation\n", "terminated"]),
+              ("X JMP X\n END X\n", ["stopped pause"])]
 UNVERIFIED = [("setBreakpoints", {"breakpoints": [{"line": 1}]}), ("setInstructionBreakpoints", {"breakpoints": [{"instructionReference": "0"}]}),
-              ("setDataBreakpoints", {"breakpoints": [{"dataId": "cell 3"}]}), ("setExceptionBreakpoints", {"filters": ["conflict"]})]
+              watched("cell 3"), ("setExceptionBreakpoints", {"filters": ["conflict"]})]
 
 
 def source_of(path):
@@ -193,7 +198,7 @@ def undebugged(command, count):
             body = json.loads(found[seq][0])["body"]
             count.same(f"{source!r}: {name} sets none", body, {"breakpoints": [{"message": "not debugged", "verified": False}]})
         events = [json.loads(text) for text in found[len(UNVERIFIED) + 2][1:]]
-        told_of = [" ".join([it["event"], *(it.get("body", {}).get(name, "") for name in ("category", "output", "reason") if name in it.get("body", {}))]) for it in events]
+        told_of = [" ".join([it["event"], *(it["body"][name] for name in ("category", "output", "reason") if name in it.get("body", {}))]) for it in events]
         count.same(f"{source!r} is not debugged", told_of, wanted)
 
 

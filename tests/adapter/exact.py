@@ -81,8 +81,8 @@ TYPED = " ENTA 5\nX STA 100\n HLT\n END 0\n"
 
 # A reply with a letter of two bytes, which the length of its frame counts.
 LETTER = " NOP 0 \u00e9!\n END 0\n"
-REPLIED = '{"body":{"line":"show counts","result":"         0           0  0000      1   NOP 0 \u00e9!\\n         0           0  total\\n","variablesReference":0},' \
-    '"command":"evaluate","request_seq":3,"seq":%d,"success":true,"type":"response"}'
+REPLIED = '{"body":{"line":"show counts","result":"         0           0  0000      1   NOP 0 \u00e9!\\n         0           0  total\\n",' \
+    '"variablesReference":0},"command":"evaluate","request_seq":3,"seq":%d,"success":true,"type":"response"}'
 
 
 def rows_of(part):
@@ -113,7 +113,8 @@ def frames(command, count):
     asked = [framed(("initialize", {})), framed(launch(HI)), framed(DONE, ("next", {}))]
     found, ended = texts(command, b"".join(given + each for (given, _), each in zip(UNHEARD, asked)))
     count.same("numbers of messages", ([json.loads(text)["seq"] for text in found], ended), (list(range(1, len(found) + 1)), GOOD))
-    count.row("each is told in its turn", [text for text in found if "important" in text] == [UNCLEAR % (text, number) for (_, text), number in zip(UNHEARD, (1, 3, 6))], found)
+    wanted = [UNCLEAR % (text, number) for (_, text), number in zip(UNHEARD, (1, 3, 6))]
+    count.row("each is told in its turn", [text for text in found if "important" in text] == wanted, found)
 
 
 def messages(command, count):
@@ -219,8 +220,8 @@ def reports(command, count):
             ran = subprocess.run([command[0], "check", "a.mixal"], cwd=folder, capture_output=True, text=True)
         wanted = [("launch", ran.returncode == 0)] + [("stderr", ran.stdout)] * (ran.stdout != "") + [("initialized",)] * (ran.returncode == 0)
         found = [json.loads(text) for text in texts(command, framed(("launch", {"program": "a.mixal", "sourceText": source})))[0]]
-        same = [(it["command"], it["success"]) if it["type"] == "response" else (it["body"]["category"], it["body"]["output"]) if it["event"] == "output" else (it["event"],)
-                for it in found]
+        same = [(it["command"], it["success"]) if it["type"] == "response" else
+                (it["body"]["category"], it["body"]["output"]) if it["event"] == "output" else (it["event"],) for it in found]
         count.same(f"{source!r} is launched", same, wanted)
 
 

@@ -28,6 +28,7 @@ HERE = os.path.dirname(os.path.abspath(__file__))
 sys.path.insert(0, HERE)
 
 from client import run, talked
+from frames import framed
 
 PROGRAMS = os.path.join(HERE, "programs")
 CALLS = os.path.join(PROGRAMS, "calls.mixal")
@@ -152,7 +153,8 @@ def refusals(talk, count):
     count.row("a step before the launch", talk.refused("next", threadId=1), "it is accepted")
     count.row("no such request", talk.refused("fly"), "it is accepted")
     for name, more, wanted in (("refused.mixal", {}, "line 2: A2 no such operation"), ("nowhere.mixal", {}, "T4 not opened"),
-                               ("calls.mixal", {"devices": program("calls.mixal")}, "K1 bad header"), ("calls.mixal", {"devices": program("none.deck")}, "T4 not opened")):
+                               ("calls.mixal", {"devices": program("calls.mixal")}, "K1 bad header"),
+                               ("calls.mixal", {"devices": program("none.deck")}, "T4 not opened")):
         text = talk.refused("launch", program=program(name), **more)
         count.row(f"launch of {name} with {more}", wanted in text, text)
     count.row("a launch without a program", talk.refused("launch", stopOnEntry=True), "it is accepted")
@@ -204,8 +206,7 @@ def over_sockets(command, count):
     ours, theirs = socket.socketpair()
     process = subprocess.Popen(command, stdin=theirs, stdout=theirs, stderr=subprocess.PIPE)
     theirs.close()
-    body = b'{"seq":1,"type":"request","command":"initialize","arguments":{"adapterID":"mixrev"}}'
-    ours.sendall(b"Content-Length: %d\r\n\r\n%s" % (len(body), body))
+    ours.sendall(framed(("initialize", {"adapterID": "mixrev"})))
     ours.settimeout(10)
     try:
         answer = ours.recv(65536)
@@ -220,8 +221,6 @@ def over_sockets(command, count):
         count.row("sockets: status at the end", False, "it did not end")
 
 
-TALKS = (steps, halts, subroutine, gotos, faults, prints, refusals, running)
-
-
 if __name__ == "__main__":
-    run(*map(talked, TALKS), talked(from_zero, linesStartAt1=False, columnsStartAt1=False), named, over_sockets)
+    run(*map(talked, (steps, halts, subroutine, gotos, faults, prints, refusals, running)),
+        talked(from_zero, linesStartAt1=False, columnsStartAt1=False), named, over_sockets)

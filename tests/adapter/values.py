@@ -25,13 +25,14 @@ COMMANDS = ["step", "run", "back", "forth", "goto", "set", "break", "clear", "sh
 PARTS = ["A", "X", "I1", "I2", "I3", "I4", "I5", "I6", "J", "cell", "loc", "over", "cmp"]
 NAMES = ["LIST", "LOOP", "LAST"]
 COMPLETED = [
-    ("", 1, COMMANDS, 1, 0), ("  ", 3, COMMANDS, 3, 0), ("s", 2, ["step", "set", "show"], 1, 1), ("S", 2, ["step", "set", "show"], 1, 1), ("step", 5, ["step"], 1, 4),
-    ("fly", 4, [], 1, 3), ("fly ", 5, [], 5, 0), ("step ", 6, [], 6, 0), ("trace ", 7, [], 7, 0), ("goto ", 6, [], 6, 0), ("*", 2, [], 1, 1),
-    ("run ", 5, [], 5, 0), ("run 5 ", 7, ["until"], 7, 0), ("run 5 until ", 13, [*PARTS, "unit", "conflict"], 13, 0), ("RUN 5 UNTIL C", 14, ["cell", "cmp", "conflict"], 13, 1),
-    ("run 5 at ", 10, [], 10, 0), ("run 5 until cell l", 19, NAMES, 18, 1), ("run 5 until A ", 15, ["or"], 15, 0), ("run 5 until unit ", 18, [], 18, 0),
-    ("run 5 until unit 18 ", 21, ["or"], 21, 0), ("run 5 until A or c", 19, ["cell", "cmp", "conflict"], 18, 1), ("show writes A ", 15, [], 15, 0),
-    ("back ", 6, ["all", "break", "until"], 6, 0), ("back until loc lo", 18, ["LOOP"], 16, 2), ("back all ", 10, [], 10, 0), ("back 3 ", 8, [], 8, 0),
-    ("forth ", 7, ["all", "until"], 7, 0), ("forth until o", 14, ["over"], 13, 1), ("forth all ", 11, [], 11, 0),
+    ("", 1, COMMANDS, 1, 0), ("  ", 3, COMMANDS, 3, 0), ("s", 2, ["step", "set", "show"], 1, 1), ("S", 2, ["step", "set", "show"], 1, 1),
+    ("step", 5, ["step"], 1, 4), ("step ", 6, [], 6, 0), ("trace ", 7, [], 7, 0), ("goto ", 6, [], 6, 0), ("fly", 4, [], 1, 3), ("fly ", 5, [], 5, 0),
+    ("*", 2, [], 1, 1), ("run ", 5, [], 5, 0), ("run 5 ", 7, ["until"], 7, 0), ("run 5 until ", 13, [*PARTS, "unit", "conflict"], 13, 0),
+    ("RUN 5 UNTIL C", 14, ["cell", "cmp", "conflict"], 13, 1), ("run 5 at ", 10, [], 10, 0), ("run 5 until cell l", 19, NAMES, 18, 1),
+    ("run 5 until A ", 15, ["or"], 15, 0), ("run 5 until unit ", 18, [], 18, 0), ("run 5 until unit 18 ", 21, ["or"], 21, 0), ("show writes A ", 15, [], 15, 0),
+    ("run 5 until A or c", 19, ["cell", "cmp", "conflict"], 18, 1), ("back ", 6, ["all", "break", "until"], 6, 0), ("back until loc lo", 18, ["LOOP"], 16, 2),
+    ("back all ", 10, [], 10, 0), ("back 3 ", 8, [], 8, 0), ("forth ", 7, ["all", "until"], 7, 0), ("forth until o", 14, ["over"], 13, 1),
+    ("forth all ", 11, [], 11, 0),
     ("set ", 5, PARTS, 5, 0), ("set i", 6, ["I1", "I2", "I3", "I4", "I5", "I6"], 5, 1), ("set A ", 7, NAMES, 7, 0), ("set A LIST ", 12, [], 12, 0),
     ("set cell ", 10, NAMES, 10, 0), ("set cell LIST l", 16, NAMES, 15, 1), ("set cell LIST LOOP ", 20, [], 20, 0), ("set loc ", 9, NAMES, 9, 0),
     ("set over ", 10, ["on", "off"], 10, 0), ("set over of", 12, ["off"], 10, 2), ("set over on ", 13, [], 13, 0), ("set cmp ", 9, ["L", "E", "G"], 9, 0),
@@ -80,6 +81,10 @@ def word_bytes(text):
     return bytes([sign == "-", *(int(part) for part in rest)])
 
 
+def coded(numbers):
+    return base64.b64encode(bytes(numbers)).decode()
+
+
 def memory(talk, count):
     """Memory is read and written as six bytes a cell, and disassembled."""
     talk.launch(CALLS)
@@ -92,18 +97,14 @@ def memory(talk, count):
     read = talk.body("readMemory", memoryReference=last, count=10)
     count.same("readMemory past the end", (base64.b64decode(read.get("data", "")), read.get("unreadableBytes")), (bytes(6), 4))
     changed = word_bytes("- 63 00 01 02 03")
-    talk.body("writeMemory", memoryReference=last, data=base64.b64encode(changed).decode())
+    talk.body("writeMemory", memoryReference=last, data=coded(changed))
     count.same("writeMemory", talk.page(3999)[1]["value"][:16], "- 63 00 01 02 03")
-    text = talk.refused("writeMemory", memoryReference=last, data=base64.b64encode(bytes([0, 64, 0, 0, 0, 0])).decode())
-    count.row("a byte over 63 is refused", text, "it is not")
-    text = talk.refused("writeMemory", memoryReference=last, data=base64.b64encode(bytes([2, 0, 0, 0, 0, 0])).decode())
-    count.row("a sign that is neither 0 nor 1 is refused", text, "it is not")
+    for what, data in (("a byte over 63", coded([0, 64, 0, 0, 0, 0])), ("a sign that is neither 0 nor 1", coded([2] + [0] * 5)), ("what is no base64", "?")):
+        count.row(f"{what} is refused", talk.refused("writeMemory", memoryReference=last, data=data), "it is not")
     # an offset that is no whole number of 64 bits is refused, and nothing is written
     for offset in ("6", 1e30, 10**19, 2.5, [], True):
-        text = talk.refused("writeMemory", memoryReference=last, offset=offset, data=base64.b64encode(changed).decode())
+        text = talk.refused("writeMemory", memoryReference=last, offset=offset, data=coded(changed))
         count.same(f"an offset {offset!r}", text, "Q2 bad argument")
-    text = talk.refused("writeMemory", memoryReference=last, data="?")
-    count.row("what is no base64 is refused", text, "it is not")
     count.same("what is refused changes nothing", talk.repl("show changes"), "changes 1")
     told = talk.body("disassemble", memoryReference=reference, instructionOffset=-1, instructionCount=3)["instructions"]
     count.same("disassemble", [instruction["instruction"] for instruction in told], ["ENT1 3", "STA 100,1", "DEC1 1"])
@@ -120,19 +121,17 @@ def evaluates(talk, count):
     """W-values in hover and watch, commands of the script in the repl; a command of the repl moves the same timeline."""
     talk.launch(CALLS)
     talk.move("next")
-    for context in ("hover", "watch"):
-        found = talk.body("evaluate", expression="LOOP", context=context)["result"]
-        count.row(f"{context} of a symbol", "+ 00 00 00 00 12" in found, found)
-    found = talk.body("evaluate", expression="LOOP+1*2", context="watch")["result"]
-    count.row("watch of an expression, from left to right", "+ 00 00 00 00 26" in found, found)
-    found = talk.body("evaluate", expression="1,-1000(0:2)", context="watch")["result"]
-    count.row("watch of the W-value of the book", "- 15 40 00 00 01" in found, found)
-    found = talk.body("evaluate", expression="A", context="hover")["result"]
-    count.row("hover of a register", "+ 00 00 00 00 05" in found, found)
-    for expression, wanted in (("rA", "+ 00 00 00 00 05 = 5"), ("I1", "+ 00 00 = 0"), ("rI1", "+ 00 00 = 0"), ("over", "off"), ("cmp", "E"), ("loc", "0011"), ("clock", "1"),
-                               ("cell LOOP", "+ 01 36 01 05 24 = 26218840"), ("cell *", "+ 00 03 00 02 49 = 786609")):
+    for context, expression, what, wanted in (
+            ("hover", "A", "a register", "+ 00 00 00 00 05"), *((context, "LOOP", "a symbol", "+ 00 00 00 00 12") for context in ("hover", "watch")),
+            ("watch", "LOOP+1*2", "an expression, from left to right", "+ 00 00 00 00 26"),
+            ("watch", "1,-1000(0:2)", "the W-value of the book", "- 15 40 00 00 01")):
+        found = talk.body("evaluate", expression=expression, context=context)["result"]
+        count.row(f"{context} of {what}", wanted in found, found)
+    for expression, wanted in (("rA", "+ 00 00 00 00 05 = 5"), ("I1", "+ 00 00 = 0"), ("rI1", "+ 00 00 = 0"), ("over", "off"), ("cmp", "E"), ("loc", "0011"),
+                               ("clock", "1"), ("cell LOOP", "+ 01 36 01 05 24 = 26218840"), ("cell *", "+ 00 03 00 02 49 = 786609")):
         count.same(f"watch of {expression}", talk.body("evaluate", expression=expression, context="watch")["result"], wanted)
-    for context, expression in (("hover", "unit 16"), ("watch", "cell 4000"), ("watch", "cell"), ("watch", "rB"), ("watch", "r"), ("hover", "NOWHERE"), ("watch", "1+"), ("repl", "jump"), ("repl", "back 0"), ("repl", "set I1 4096"), ("watch", "\u00e9\u4e16")):
+    for context, expression in (("hover", "unit 16"), ("watch", "cell 4000"), ("watch", "cell"), ("watch", "rB"), ("watch", "r"), ("hover", "NOWHERE"),
+                                ("watch", "1+"), ("repl", "jump"), ("repl", "back 0"), ("repl", "set I1 4096"), ("watch", "\u00e9\u4e16")):
         count.row(f"{context} of {expression} is refused", talk.refused("evaluate", expression=expression, context=context), "it is not")
     found = talk.body("completions", text="break lo", column=9, line=1, frameId=1)["targets"]
     count.same("a line may go on", found, [{"label": "LOOP", "start": 7, "length": 2}])
@@ -157,7 +156,8 @@ def hovers(command, count):
     found = [json.loads(text) for text in texts(command, framed(launch(SYMBOLS), DONE, *asked))[0]]
     same = [message["body"].get("result") for message in found if message.get("command") == "evaluate"]
     count.same("hovers over operations", dict(zip(wanted, same, strict=True)), wanted)
-    for given in ({"expression": "LDA", "context": "watch"}, {"expression": "LDA"}, {"expression": "FADD", "context": "hover"}, {"expression": "LDA 5", "context": "hover"}):
+    for given in ({"expression": "LDA", "context": "watch"}, {"expression": "LDA"},
+                  {"expression": "FADD", "context": "hover"}, {"expression": "LDA 5", "context": "hover"}):
         found = texts(command, framed(launch(SYMBOLS), DONE, ("evaluate", given)))[0]
         count.row(f"{given}", '"id":202' in found[-1], found)
     found = texts(command, framed(launch("LDA EQU 5\n END 0\n"), DONE, asked[[*wanted].index("LDA")]))[0]
@@ -179,7 +179,7 @@ def completes(command, count):
 
 def missing(command, count):
     """Neither the text nor the column may be missing, nor the program."""
-    asked = [("completions", {"text": "st"}), ("completions", {"column": 1}), ("completions", {"text": 5, "column": 1}), ("completions", {"text": "st", "column": "3"})]
+    asked = [("completions", given) for given in ({"text": "st"}, {"column": 1}, {"text": 5, "column": 1}, {"text": "st", "column": "3"})]
     found, _ = texts(command, framed(asked[0], launch(SYMBOLS), *asked))
     numbers = [message["body"]["error"]["id"] for message in map(json.loads, found) if message.get("command") == "completions"]
     count.same("what is missing", numbers, [303, 302, 302, 302, 302])
