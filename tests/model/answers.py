@@ -5,15 +5,11 @@ from collections import namedtuple
 from expressions import address, expression, w_value
 from lines import read_line
 from texts import Fault
+from words import number_text
 
 # Kind L, E, W or A; here a word; op (C, normal F) for A, else None; names with a word each; text
 # bytes.
 Request = namedtuple("Request", "kind here op names text")
-
-
-def written_word(word):
-    sign, magnitude = word
-    return "%s%d" % ("-" if sign == "-" else "", magnitude)
 
 
 def word_in(text):
@@ -26,8 +22,8 @@ def written_bytes(text):
 
 def written_request(request):
     op = "%d:%d" % request.op if request.op else "-"
-    names = ",".join(name.decode() + "=" + written_word(word) for name, word in request.names.items()) or "-"
-    return "%s %s %s %s %s" % (request.kind, written_word(request.here), op, names, written_bytes(request.text))
+    names = ",".join(name.decode() + "=" + number_text(word) for name, word in request.names.items()) or "-"
+    return "%s %s %s %s %s" % (request.kind, number_text(request.here), op, names, written_bytes(request.text))
 
 
 def request_in(line):
@@ -44,7 +40,7 @@ def of_line(line):
     if line.op[0] == "machine":
         op = "machine:%d:%d" % line.op[1:]
     else:
-        op = line.op[0] + (":" + written_word(line.op[1]) if line.op[1:] else "")
+        op = line.op[0] + (":" + number_text(line.op[1]) if line.op[1:] else "")
     return "code %s %s %s" % (loc, op, written_bytes(line.address))
 
 
@@ -55,7 +51,7 @@ def shown(name):
 def of_operand(operand):
     kind, what = operand.a
     if kind == "value":
-        what = written_word(what)
+        what = number_text(what)
     elif kind == "literal":
         what = written_bytes(what)
     return "%s:%s %d %d" % (kind, shown(what), operand.index, operand.f)
@@ -68,9 +64,9 @@ def answer(request):
             return of_line(read_line(text))
         if kind == "E":
             word, used = expression(text, 0, names, here)
-            return "%s %d" % (written_word(word), used)
+            return "%s %d" % (number_text(word), used)
         if kind == "W":
-            return written_word(w_value(text, names, here))
+            return number_text(w_value(text, names, here))
         return of_operand(address(text, op[1], names, here))
     except Fault as fault:
         return fault.number

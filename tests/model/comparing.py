@@ -8,10 +8,10 @@ import tempfile
 from collections import Counter
 
 import bundle
-from machine import instruction
 from operations import TABLE, UNIT_OPERATIONS
 from program import Runner
 from texts import TEXTS
+from words import instruction
 
 WORKERS = int(os.environ.get("WORKERS", "2"))
 CHUNK = 250  # bundles that a worker does at a time

@@ -3,43 +3,15 @@
 All of it is told from worlds made again from the loaded machine, and from what two of them differ in."""
 
 from command_words import cells_between, digits_of, expression_in, place_in_range, w_value_in
-from machine import do, instruction, replay
-from operations import FLOATING, NEEDS_FIELD, REGISTERS, TABLE
+from lines import text_of
+from machine import do, replay
+from operations import REGISTERS
 from texts import Fault
 from transfers import conflict, conflicts
 from units import UNITS, characters
-from words import FIELDS, bytes_of, written
+from words import number_text, written
 
 NAMES = ["A", "X", "I1", "I2", "I3", "I4", "I5", "I6", "J"]
-NORMAL_F = {0: 0, 7: 1, 32: 2, 34: 0, 35: 0, 36: 0, 37: 0, 38: 0}  # the others that have an F-part have 5
-ALONE = ("NOP", "NUM", "CHAR", "HLT")
-
-
-# The text of a word
-
-
-def number_text(word):
-    return ("-" if word[0] == "-" else "") + str(word[1])
-
-
-def text_of(word):
-    """A line of source that assembles to the word."""
-    sign, aa, index, f, c = instruction(word)
-    name, part = name_and_part(c, f)
-    if name is None or index > 6:
-        return "CON " + number_text(word)
-    rest = number_text((sign, aa)) + (",%d" % index if index else "") + part
-    return name if rest == "0" and name in ALONE else name + " " + rest
-
-
-def name_and_part(c, f):
-    """The name of the operation and its F-part; no name where the machine would refuse the pair."""
-    if (c, f) in FLOATING or (c, f) not in TABLE or c in NEEDS_FIELD and f not in FIELDS or 34 <= c <= 38 and f >= UNITS:
-        return None, ""
-    name = TABLE[c, f].name
-    if c in (5, 6) or 39 <= c <= 55 or f == NORMAL_F.get(c, 5):
-        return name, ""
-    return name, "(%d:%d)" % divmod(f, 8) if c in NEEDS_FIELD else "(%d)" % f
 
 
 # What differs between two worlds

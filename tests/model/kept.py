@@ -1,9 +1,8 @@
 """How many overwritten values a change keeps, so that it can be taken back: a place and a value for each."""
 
-from machine import instruction
 from operations import operation
 from units import DISK, TAPE, kind_of
-from words import number
+from words import instruction, number
 
 # Beside the location and the clock, which each step keeps.
 BESIDE = {

@@ -1,11 +1,12 @@
-"""A line of a source: LOC, OP and ADDRESS, and the characters of ALF (1.3.2)."""
+"""A line of a source: LOC, OP and ADDRESS, and the characters of ALF (1.3.2); and the line that assembles to a word."""
 
 from collections import namedtuple
 
 from expressions import is_local, is_symbol
-from operations import TABLE
+from operations import FLOATING, NEEDS_FIELD, NEEDS_NO_ADDRESS, TABLE
 from texts import Fault
-from words import code_of, joined
+from units import UNITS
+from words import FIELDS, code_of, instruction, joined, number_text
 
 # LOC is None, ("name", symbol) or ("local", d). OP is ("machine", C, normal F), ("equ",),
 # ("orig",), ("con",), ("end",) or ("alf", word), which has no ADDRESS.
@@ -95,3 +96,23 @@ def characters(rest):
     text = text.replace(b"\t", b" ")
     check_characters(text)
     return joined("+", [code_of(byte) for byte in text.ljust(5)])
+
+
+def text_of(word):
+    """A line of source that assembles to the word."""
+    sign, aa, index, f, c = instruction(word)
+    name, part = name_and_part(c, f)
+    if name is None or index > 6:
+        return "CON " + number_text(word)
+    rest = number_text((sign, aa)) + (",%d" % index if index else "") + part
+    return name if rest == "0" and name in NEEDS_NO_ADDRESS else name + " " + rest
+
+
+def name_and_part(c, f):
+    """The name of the operation and its F-part; no name where the machine would refuse the pair."""
+    if (c, f) in FLOATING or (c, f) not in TABLE or c in NEEDS_FIELD and f not in FIELDS or 34 <= c <= 38 and f >= UNITS:
+        return None, ""
+    name = TABLE[c, f].name
+    if c in (5, 6) or 39 <= c <= 55 or f == NORMAL_F.get(c, 5):
+        return name, ""
+    return name, "(%d:%d)" % divmod(f, 8) if c in NEEDS_FIELD else "(%d)" % f

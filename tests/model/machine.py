@@ -3,8 +3,8 @@
 from operations import NEEDS_FIELD, NEEDS_NO_ADDRESS, REGISTERS, operation
 from texts import Fault
 from units import begun, check_control, check_in, check_out, control, is_busy, kind_of, no_units, read, write
-from words import (FIELDS, ZERO, add, bytes_of, compare, div, field_value, mul, negated, num, number, put_field, shift,
-                   sub, to_char, word_of)
+from words import (FIELDS, ZERO, add, compare, div, field_value, instruction, mul, negated, num, number, put_field, shift, sub,
+                   to_char, word_of)
 
 CELLS = 4000
 CLOCK_LIMIT = 10**18
@@ -63,12 +63,6 @@ def replay(world, changes):
     for change in changes:
         world, _ = do(world, change)
     return world
-
-
-def instruction(word):
-    """Sign, AA, I, F and C: the sign, bytes 1 and 2 as one number, and bytes 3, 4 and 5."""
-    one, two, index, f, c = bytes_of(word)
-    return word[0], 64 * one + two, index, f, c
 
 
 def step(world):

@@ -7,7 +7,7 @@ import re
 
 from assembler import assemble
 from bundle import run
-from history import text_of
+from lines import text_of
 from testing import bundle, is_so, word
 from words import joined
 

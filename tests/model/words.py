@@ -53,6 +53,17 @@ def written(word, first=1):
     return word[0] + "".join(" %02d" % byte for byte in bytes_of(word)[first - 1:])
 
 
+def number_text(word):
+    """A decimal number, with its sign where that is minus: -0 too."""
+    return ("-" if word[0] == "-" else "") + str(word[1])
+
+
+def instruction(word):
+    """Sign, AA, I, F and C: the sign, bytes 1 and 2 as one number, and bytes 3, 4 and 5."""
+    one, two, index, f, c = bytes_of(word)
+    return word[0], 64 * one + two, index, f, c
+
+
 # Fields
 
 
