@@ -1,8 +1,14 @@
-"""The words of a command: numbers, expressions, W-values, places. All of them are read before any is tested for its range."""
+"""The words of a command: numbers, expressions, W-values, places, conditions. All of them are read before any is tested for its range."""
 
 from expressions import expression, w_value
+from operations import NAMES
 from texts import Fault
+from transfers import Conflicts
+from units import UNITS
 from words import number
+
+MOST = 8  # conditions of one command
+OPERANDS = (b"CELL", b"LOC", b"UNIT")  # are followed by a word, whichever it is
 
 
 def digits_of(word):
@@ -35,6 +41,12 @@ def place_in_range(word):
     return place
 
 
+def unit_in_range(n):
+    if n >= UNITS:
+        raise Fault("C3")
+    return n
+
+
 def count(words, number):
     if len(words) != number:
         raise Fault("C2")
@@ -46,3 +58,40 @@ def cells_between(session, words):
     if first > last:
         raise Fault("C3")
     return range(first, last + 1)
+
+
+# What a command stops at
+
+
+def condition(session, words):
+    """The words behind `until`, conditions with OR between them: all read before one is tested for its range."""
+    conditions = []
+    while True:
+        size = 2 if words[:1] and words[0] in OPERANDS else 1
+        conditions.append(one_condition(session, words[:size]))
+        words = words[size:]
+        if not words:
+            return conditions
+        if words[0] != b"OR" or len(conditions) == MOST:
+            raise Fault("C2")
+        words = words[1:]
+
+
+def one_condition(session, words):
+    if len(words) == 1 and words[0].decode("latin-1") in NAMES:
+        return ("register", words[0].decode())
+    if words in ([b"OVER"], [b"CMP"]):
+        return (words[0].decode().lower(), None)
+    if words == [b"CONFLICT"]:
+        return ("conflict", lambda: Conflicts(session))
+    if len(words) == 2 and words[0] in (b"CELL", b"LOC"):
+        word = expression_in(session, words[1])
+        return (words[0].decode().lower(), lambda: place_in_range(word))
+    if len(words) == 2 and words[0] == b"UNIT":
+        n = digits_of(words[1])
+        return ("unit", lambda: unit_in_range(n))
+    raise Fault("C2")
+
+
+def conditions_in_range(cond):
+    return [(kind, which() if callable(which) else which) for kind, which in cond]

@@ -1,12 +1,12 @@
 """The commands and their replies. The state is the loaded machine, the list of changes that stand, and those that `back` took away."""
 
 import history
-from command_words import cells_between, count, digits_of, expression_in, place_in_range, w_value_in
+from command_words import cells_between, condition, conditions_in_range, count, digits_of, expression_in, place_in_range, unit_in_range, w_value_in
 from machine import do, replay
-from operations import REGISTERS
+from operations import NAMES
 from pieces import words_of
 from texts import Fault
-from units import UNITS, is_empty, shown
+from units import is_empty, shown
 from words import ZERO, written
 
 STEPS = 1000000  # the most that one command does
@@ -76,7 +76,7 @@ def is_until(words):
 
 def run(session, words):
     if is_until(words[1:]):
-        limit, cond = digits_of(words[0]), history.condition(session, words[2:])
+        limit, cond = digits_of(words[0]), condition(session, words[2:])
         return ran(session, limit, True, cond)
     count(words, 1)
     return ran(session, digits_of(words[0]), True)
@@ -86,7 +86,7 @@ def ran(session, limit, stops, cond=None, traces=False):
     """Steps up to a limit, a halt, a fault, or a breakpoint where the command stops at one."""
     if not 1 <= limit <= STEPS:
         raise Fault("C3")
-    cond = cond and history.in_range(cond)
+    cond = cond and conditions_in_range(cond)
     done, end = 0, None
     lines = []
     while end is None:
@@ -205,7 +205,7 @@ def clear(session, words):
 
 def set_(session, words):
     change = None
-    if len(words) == 2 and words[0].decode("latin-1") in REGISTERS + ["J"]:
+    if len(words) == 2 and words[0].decode("latin-1") in NAMES:
         change = ("register", words[0].decode(), w_value_in(session, words[1]))
     elif len(words) == 3 and words[0] == b"CELL":
         place, word = expression_in(session, words[1]), w_value_in(session, words[2])
@@ -232,9 +232,7 @@ def show(session, words):
     if len(words) == 3 and words[0] == b"CELLS":
         return "".join(cell_line(world, place) for place in cells_between(session, words))
     if len(words) == 2 and words[0] == b"UNIT":
-        n = digits_of(words[1])
-        if n >= UNITS:
-            raise Fault("C3")
+        n = unit_in_range(digits_of(words[1]))
         return shown(n, world.units[n])
     if words == [b"BREAKS"]:
         return breakpoints(world)
@@ -245,7 +243,7 @@ def show(session, words):
 
 def registers(world):
     lines = []
-    for name in ["A", "X", "I1", "I2", "I3", "I4", "I5", "I6", "J"]:
+    for name in NAMES:
         lines.append("%-2s %s\n" % (name, written(world.registers[name], 1 if name in ("A", "X") else 4)))
     over = "on" if world.over else "off"
     lines.append("over %s cmp %s loc %04d clock %d\n" % (over, world.cmp, world.loc, world.clock))

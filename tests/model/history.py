@@ -2,16 +2,14 @@
 
 All of it is told from worlds made again from the loaded machine, and from what two of them differ in."""
 
-from command_words import cells_between, digits_of, expression_in, place_in_range, w_value_in
+from command_words import cells_between, condition, conditions_in_range, digits_of, one_condition, w_value_in
 from lines import text_of
 from machine import do, replay
-from operations import REGISTERS
+from operations import NAMES
 from texts import Fault
-from transfers import conflict, conflicts
+from transfers import conflicts
 from units import UNITS, characters
 from words import number_text, written
-
-NAMES = ["A", "X", "I1", "I2", "I3", "I4", "I5", "I6", "J"]
 
 
 # What differs between two worlds
@@ -104,63 +102,6 @@ def moves(world, changes):
 # Watches: what a command stops at
 
 
-MOST = 8  # conditions of one command
-OPERANDS = (b"CELL", b"LOC", b"UNIT")  # are followed by a word, whichever it is
-
-
-class Conflicts:
-    """Which changes of a session conflict with a transfer under way, asked by their numbers."""
-
-    def __init__(self, session):
-        self.session, self.worlds = session, [session.loaded]
-
-    def at(self, n):
-        every = self.session.changes + self.session.ahead
-        while len(self.worlds) < n:
-            self.worlds.append(do(self.worlds[-1], every[len(self.worlds) - 1])[0])
-        return conflict(self.worlds, every, n - 1) is not None
-
-
-def condition(session, words):
-    """The words behind `until`, conditions with OR between them: all read before one is tested for its range."""
-    conditions = []
-    while True:
-        count = 2 if words[:1] and words[0] in OPERANDS else 1
-        conditions.append(one_condition(session, words[:count]))
-        words = words[count:]
-        if not words:
-            return conditions
-        if words[0] != b"OR" or len(conditions) == MOST:
-            raise Fault("C2")
-        words = words[1:]
-
-
-def one_condition(session, words):
-    if len(words) == 1 and words[0].decode("latin-1") in REGISTERS + ["J"]:
-        return ("register", words[0].decode())
-    if words in ([b"OVER"], [b"CMP"]):
-        return (words[0].decode().lower(), None)
-    if words == [b"CONFLICT"]:
-        return ("conflict", lambda: Conflicts(session))
-    if len(words) == 2 and words[0] in (b"CELL", b"LOC"):
-        word = expression_in(session, words[1])
-        return (words[0].decode().lower(), lambda: place_in_range(word))
-    if len(words) == 2 and words[0] == b"UNIT":
-        n = digits_of(words[1])
-        return ("unit", lambda: unit_in_range(n))
-    raise Fault("C2")
-
-
-def in_range(cond):
-    return [(kind, which() if callable(which) else which) for kind, which in cond]
-
-
-def unit_in_range(n):
-    if n >= UNITS:
-        raise Fault("C3")
-    return n
-
-
 def reached(cond, v, w, n):
     """Of a move from one world to another, either way, by the change of a number: whether one of the conditions is."""
     return any(reaches(kind, which, v, w, n) for kind, which in cond)
@@ -182,7 +123,7 @@ def reaches(kind, which, v, w, n):
 
 def back_until(session, words):
     """The line of the change, and how many are to be taken back."""
-    cond = in_range(condition(session, words))
+    cond = conditions_in_range(condition(session, words))
     found = None
     for n, change, before, after in moves(session.loaded, session.changes):
         if reached(cond, after, before, n):
@@ -193,7 +134,7 @@ def back_until(session, words):
 
 
 def forth_until(session, words):
-    cond = in_range(condition(session, words))
+    cond = conditions_in_range(condition(session, words))
     for k, change, before, after in moves(session.world, session.ahead):
         if reached(cond, before, after, len(session.changes) + k):
             return told(len(session.changes) + k, change, before, after), k
@@ -296,7 +237,7 @@ def show_past(session, words):
     if len(words) == 2 and words[0] == b"LAST":
         return last(session, digits_of(words[1]))
     if words[:1] == [b"WRITES"]:
-        return writes(session, in_range([one_condition(session, words[1:])]))
+        return writes(session, conditions_in_range([one_condition(session, words[1:])]))
     if len(words) == 2 and words[0] == b"DIFF":
         return diff(session, digits_of(words[1]))
     raise Fault("C2")

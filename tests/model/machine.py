@@ -1,6 +1,6 @@
 """The machine and one change of it (1.3.1). Every change makes a new machine, so a fault leaves the old one."""
 
-from operations import NEEDS_FIELD, NEEDS_NO_ADDRESS, REGISTERS, operation
+from operations import NAMES, NEEDS_FIELD, NEEDS_NO_ADDRESS, operation
 from texts import Fault
 from units import begun, check_control, check_in, check_out, control, is_busy, kind_of, no_units, read, write
 from words import (FIELDS, ZERO, add, compare, div, field_value, instruction, mul, negated, num, number, put_field, shift, sub,
@@ -13,7 +13,7 @@ CLOCK_LIMIT = 10**18
 class World:
     def __init__(self, words, start, units=None):
         """Loaded: all +0, then the program's words in order, so that a later one wins; the units of the deck."""
-        self.registers = {register: ZERO for register in REGISTERS + ["J"]}
+        self.registers = {register: ZERO for register in NAMES}
         self.cells = {}  # the cells that were written; the others hold +0
         for place, word in words:
             self.cells[place] = word

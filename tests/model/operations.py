@@ -13,6 +13,8 @@ Operation = namedtuple("Operation", "name kind register time")
 # In the order of the codes: 8 is LDA, 9 to 14 are LD1 to LD6, 15 is LDX, and the same from 16, 24,
 # 40, 48 and 56 on.
 REGISTERS = ["A", "I1", "I2", "I3", "I4", "I5", "I6", "X"]
+# All of them, in the order in which they are shown.
+NAMES = ["A", "X", "I1", "I2", "I3", "I4", "I5", "I6", "J"]
 
 NEEDS_FIELD = set(range(1, 5)) | set(range(8, 34)) | set(range(56, 64))
 NEEDS_NO_ADDRESS = {"NOP", "NUM", "CHAR", "HLT"}

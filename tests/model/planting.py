@@ -29,7 +29,8 @@ def run_and_listing(model, text):
 
 # What is drawn, the module that is asked, what it is asked, and the modules that stand below it, in
 # order, it the last.
-BELOW = ["texts", "words", "pieces", "operations", "units", "expressions", "lines", "machine", "assembler", "listing", "deck", "command_words", "history", "commands"]
+BELOW = ["texts", "words", "pieces", "operations", "units", "expressions", "lines", "machine", "assembler", "listing", "deck", "transfers", "command_words",
+         "history", "commands"]
 BUNDLE = ("bundle", bundle, lambda model, text: model.run(text), [*BELOW, "bundle"])
 LISTING = ("bundle", bundle, run_and_listing, [*BELOW, "bundle"])
 ANSWER = ("request", answers, lambda model, request: model.answer(request), ["expressions", "lines", "answers"])

@@ -96,3 +96,16 @@ def conflicts(loaded, changes):
     for change in changes:
         worlds.append(do(worlds[-1], change)[0])
     return [conflict(worlds, changes, at) for at in range(len(changes))]
+
+
+class Conflicts:
+    """Which changes of a session conflict with a transfer under way, asked by their numbers."""
+
+    def __init__(self, session):
+        self.session, self.worlds = session, [session.loaded]
+
+    def at(self, n):
+        every = self.session.changes + self.session.ahead
+        while len(self.worlds) < n:
+            self.worlds.append(do(self.worlds[-1], every[len(self.worlds) - 1])[0])
+        return conflict(self.worlds, every, n - 1) is not None
