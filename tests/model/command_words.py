@@ -1,4 +1,4 @@
-"""The words of a command: numbers, expressions, W-values, places, conditions. All of them are read before any is tested for its range."""
+"""The words of a command: numbers, expressions, W-values, places, lines, conditions. All of them are read before any is tested for its range."""
 
 from expressions import expression, w_value
 from operations import NAMES
@@ -45,6 +45,15 @@ def unit_in_range(n):
     if n >= UNITS:
         raise Fault("C3")
     return n
+
+
+def line_place(session, word):
+    """The cell of the first line from a number on that assembles a word."""
+    n = digits_of(word)
+    later = [entry for entry in session.program.entries if entry.line >= n]
+    if n == 0 or not later:
+        raise Fault("C3")
+    return min(later, key=lambda entry: entry.line).place
 
 
 def count(words, number):

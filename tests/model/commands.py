@@ -1,7 +1,8 @@
 """The commands and their replies. The state is the loaded machine, the list of changes that stand, and those that `back` took away."""
 
 import history
-from command_words import cells_between, condition, conditions_in_range, count, digits_of, expression_in, place_in_range, unit_in_range, w_value_in
+from command_words import (cells_between, condition, conditions_in_range, count, digits_of, expression_in, line_place, place_in_range, unit_in_range,
+                           w_value_in)
 from machine import do, replay
 from operations import NAMES
 from pieces import words_of
@@ -191,14 +192,14 @@ def trace(session, words):
 
 def break_(session, words):
     if is_line(words):
-        return session.change_or_refuse(("break", history.line_place(session, words[1])))
+        return session.change_or_refuse(("break", line_place(session, words[1])))
     count(words, 1)
     return session.change_or_refuse(("break", place_in_range(expression_in(session, words[0]))))
 
 
 def clear(session, words):
     if is_line(words):
-        return session.change_or_refuse(("clear", history.line_place(session, words[1])))
+        return session.change_or_refuse(("clear", line_place(session, words[1])))
     count(words, 1)
     return session.change_or_refuse(("clear", place_in_range(expression_in(session, words[0]))))
 

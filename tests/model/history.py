@@ -1,9 +1,10 @@
-"""What was altered, when and by what: watches in both directions, traces, counts, and the source beside the machine.
+"""What was altered, when and by what: watches in both directions, traces and counts.
 
 All of it is told from worlds made again from the loaded machine, and from what two of them differ in."""
 
 from command_words import cells_between, condition, conditions_in_range, digits_of, one_condition, w_value_in
 from lines import text_of
+from listing import code_line, source_of, source_text, symbols_of
 from machine import do, replay
 from operations import NAMES
 from texts import Fault
@@ -141,40 +142,7 @@ def forth_until(session, words):
     raise Fault("C6")
 
 
-def line_place(session, word):
-    """The cell of the first line from a number on that assembles a word."""
-    n = digits_of(word)
-    later = [entry for entry in session.program.entries if entry.line >= n]
-    if n == 0 or not later:
-        raise Fault("C3")
-    return min(later, key=lambda entry: entry.line).place
-
-
 # What is shown
-
-
-def source_of(session, place):
-    """The last entry of the program at a place, with the word it made."""
-    found = None
-    for entry, (_, word) in zip(session.program.entries, session.program.words):
-        if entry.place == place:
-            found = entry, word
-    return found
-
-
-def source_text(session, place, found):
-    entry, word = found
-    mark = "*" if session.world.cell(place) != word else " "
-    text = session.program.lines[entry.line - 1] if entry.line else entry.text
-    return "%5s%s %s" % (entry.line or "", mark, text.decode("latin-1"))
-
-
-def code_line(session, place):
-    word, found = session.world.cell(place), source_of(session, place)
-    line = "%04d  %s  " % (place, written(word))
-    if found is None:
-        return line + text_of(word) + "\n"
-    return line + "%-17s  %s\n" % (text_of(word), source_text(session, place, found))
 
 
 def counts(session):
@@ -205,15 +173,9 @@ def register_values(world):
     return "".join("%-2s %s" % (name, value_text(world.registers[name], 1 if name in ("A", "X") else 4)) for name in NAMES)
 
 
-def symbols(session):
-    pairs = session.program.symbols()
-    lines = ["symbols %d\n" % len(pairs)]
-    return "".join(lines + ["%-10s  %s\n" % (name.decode(), written(word)) for name, word in pairs])
-
-
 def show(session, words):
     if words == [b"SYMBOLS"]:
-        return symbols(session)
+        return symbols_of(session.program)
     if words == [b"VALUES"]:
         return register_values(session.world)
     if words == [b"CODE"]:
