@@ -1,14 +1,12 @@
 """The commands and their replies. The state is the loaded machine, the list of changes that stand, and those that `back` took away."""
 
 import history
-from command_words import (cells_between, condition, conditions_in_range, count, digits_of, expression_in, line_place, place_in_range, unit_in_range,
-                           w_value_in)
+from command_words import condition, conditions_in_range, count, digits_of, expression_in, line_place, place_in_range, w_value_in
 from machine import do, replay
 from operations import NAMES
 from pieces import words_of
+from show import show
 from texts import Fault
-from units import is_empty, shown
-from words import ZERO, written
 
 STEPS = 1000000  # the most that one command does
 
@@ -220,49 +218,6 @@ def set_(session, words):
     if change is None:
         raise Fault("C2")
     return session.change_or_refuse(change)
-
-
-def show(session, words):
-    world = session.world
-    if words == [b"REGS"]:
-        return registers(world)
-    if words == [b"CLOCK"]:
-        return "clock %d\n" % world.clock
-    if words == [b"CHANGES"]:
-        return "changes %d\n" % len(session.changes)
-    if len(words) == 3 and words[0] == b"CELLS":
-        return "".join(cell_line(world, place) for place in cells_between(session, words))
-    if len(words) == 2 and words[0] == b"UNIT":
-        n = unit_in_range(digits_of(words[1]))
-        return shown(n, world.units[n])
-    if words == [b"BREAKS"]:
-        return breakpoints(world)
-    if words == [b"ALL"]:
-        return everything(world)
-    return history.show(session, words)
-
-
-def registers(world):
-    lines = []
-    for name in NAMES:
-        lines.append("%-2s %s\n" % (name, written(world.registers[name], 1 if name in ("A", "X") else 4)))
-    over = "on" if world.over else "off"
-    lines.append("over %s cmp %s loc %04d clock %d\n" % (over, world.cmp, world.loc, world.clock))
-    return "".join(lines)
-
-
-def cell_line(world, place):
-    return "%04d %s\n" % (place, written(world.cell(place)))
-
-
-def breakpoints(world):
-    return "breaks" + "".join(" %04d" % place for place in sorted(world.breaks)) + "\n"
-
-
-def everything(world):
-    cells = "".join(cell_line(world, place) for place in range(4000) if world.cell(place) != ZERO)
-    units = "".join(shown(n, unit) for n, unit in enumerate(world.units) if not is_empty(unit))
-    return registers(world) + cells + breakpoints(world) + units
 
 
 COMMANDS = {b"STEP": step, b"RUN": run, b"BACK": back, b"FORTH": forth, b"BREAK": break_, b"CLEAR": clear, b"SET": set_,

@@ -2,22 +2,18 @@
 
 All of it is told from worlds made again from the loaded machine, and from what two of them differ in."""
 
-from command_words import cells_between, condition, conditions_in_range, digits_of, one_condition, w_value_in
+from command_words import condition, conditions_in_range, digits_of, one_condition
 from lines import text_of
-from listing import code_line, source_of, source_text, symbols_of
+from listing import source_of, source_text
 from machine import do, replay
-from operations import NAMES
+from operations import FIRST_BYTE, NAMES
 from texts import Fault
 from transfers import conflicts
-from units import UNITS, characters
-from words import number_text, written
+from units import UNITS
+from words import written
 
 
 # What differs between two worlds
-
-
-def register_text(name, word):
-    return written(word, 1 if name in ("A", "X") else 4)
 
 
 def on_off(flag):
@@ -30,7 +26,7 @@ def differences(v, w):
     for name in NAMES:
         before, after = v.registers[name], w.registers[name]
         if before != after:
-            items.append(("register", "%s %s -> %s" % (name, register_text(name, before), register_text(name, after))))
+            items.append(("register", "%s %s -> %s" % (name, *(written(word, FIRST_BYTE[name]) for word in (before, after)))))
     if v.over != w.over:
         items.append(("over", "over %s -> %s" % (on_off(v.over), on_off(w.over))))
     if v.cmp != w.cmp:
@@ -162,33 +158,6 @@ def counts(session):
         lines.append(line + ("  " + source_text(session, place, found) if found else ""))
     lines.append("%10d  %10d  total" % (sum(numbers.values()), sum(times.values())))
     return "".join(line + "\n" for line in lines)
-
-
-def value_text(word, first=1):
-    last = "".join(characters([word])[first - 1:])
-    return '%-16s %11s  "%s"\n' % (written(word, first), number_text(word), last)
-
-
-def register_values(world):
-    return "".join("%-2s %s" % (name, value_text(world.registers[name], 1 if name in ("A", "X") else 4)) for name in NAMES)
-
-
-def show(session, words):
-    if words == [b"SYMBOLS"]:
-        return symbols_of(session.program)
-    if words == [b"VALUES"]:
-        return register_values(session.world)
-    if words == [b"CODE"]:
-        if session.world.loc > 3999:
-            raise Fault("C3")
-        return code_line(session, session.world.loc)
-    if len(words) == 3 and words[0] == b"CODE":
-        return "".join(code_line(session, place) for place in cells_between(session, words))
-    if len(words) == 3 and words[0] == b"VALUES":
-        return "".join("%04d %s" % (place, value_text(session.world.cell(place))) for place in cells_between(session, words))
-    if len(words) == 2 and words[0] == b"VALUE":
-        return value_text(w_value_in(session, words[1]))
-    return show_past(session, words)
 
 
 def show_past(session, words):

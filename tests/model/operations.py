@@ -2,8 +2,7 @@
 
 from collections import Counter, namedtuple
 
-from tables import rows
-from texts import Fault
+from texts import Fault, rows
 
 # The register is the one that the operation names, if it names one. The kind is what operations on
 # several registers share: LD for LDA, LD1 and so on. Time is in u; a transfer may have to wait, and
@@ -15,6 +14,7 @@ Operation = namedtuple("Operation", "name kind register time")
 REGISTERS = ["A", "I1", "I2", "I3", "I4", "I5", "I6", "X"]
 # All of them, in the order in which they are shown.
 NAMES = ["A", "X", "I1", "I2", "I3", "I4", "I5", "I6", "J"]
+FIRST_BYTE = {name: 1 if name in ("A", "X") else 4 for name in NAMES}  # that they have
 
 NEEDS_FIELD = set(range(1, 5)) | set(range(8, 34)) | set(range(56, 64))
 NEEDS_NO_ADDRESS = {"NOP", "NUM", "CHAR", "HLT"}

@@ -30,7 +30,7 @@ def run_and_listing(model, text):
 # What is drawn, the module that is asked, what it is asked, and the modules that stand below it, in
 # order, it the last.
 BELOW = ["texts", "words", "pieces", "operations", "units", "expressions", "lines", "machine", "assembler", "listing", "deck", "transfers", "command_words",
-         "history", "commands"]
+         "history", "show", "commands"]
 BUNDLE = ("bundle", bundle, lambda model, text: model.run(text), [*BELOW, "bundle"])
 LISTING = ("bundle", bundle, run_and_listing, [*BELOW, "bundle"])
 ANSWER = ("request", answers, lambda model, request: model.answer(request), ["expressions", "lines", "answers"])
@@ -42,8 +42,9 @@ def planted(modules, mistake):
     texts = mistakes.put_in(mistake, text_of)
     for name in modules:
         module = types.ModuleType(name)
+        module.__file__ = os.path.join(HERE, name + ".py")
         sys.modules[name] = module
-        exec(compile(texts.get(name) or text_of(name), name + ".py", "exec"), module.__dict__)
+        exec(compile(texts.get(name) or text_of(name), module.__file__, "exec"), module.__dict__)
     found = sys.modules[modules[-1]]
     sys.modules.update(kept)
     return found

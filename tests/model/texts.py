@@ -1,7 +1,20 @@
-"""The faults: each has a number and a text, which docs/FAULTS.md says, and is told as both with a blank between."""
+"""What the documents say: the tables that a program reads too, and the faults, each with a number and a text (docs/FAULTS.md)."""
+
+import os
 import re
 
-from tables import document
+DOCS = os.path.join(os.path.dirname(os.path.abspath(__file__)), os.pardir, os.pardir, "docs")
+
+
+def document(name):
+    with open(os.path.join(DOCS, name)) as file:
+        return file.read()
+
+
+def rows(name):
+    """The rows of a table below its head, each a list of its cells."""
+    return [line.split("\t") for line in document(name).splitlines()[1:]]
+
 
 # A text up to what stands for a name, a line or another fault.
 ROW = re.compile(r"^\| ([AMKCT]\d+) \| (.*?)(?:: NAME.*?|(?<=: )Mn text|N: Kn text|) \|", re.M)
@@ -16,4 +29,5 @@ class Fault(Exception):
         self.number, self.line, self.more = number, line, more
 
     def told(self):
+        """Both, with a blank between."""
         return self.number + " " + TEXTS[self.number] + self.more
