@@ -63,10 +63,14 @@ class Session:
 # The commands
 
 
-def step(session, words):
+def step(session, words, traces=False):
     if len(words) > 1:
         raise Fault("C2")
-    return ran(session, digits_of(words[0]) if words else 1, False)
+    return ran(session, digits_of(words[0]) if words else 1, False, traces=traces)
+
+
+def trace(session, words):
+    return step(session, words, traces=True)
 
 
 def is_until(words):
@@ -170,10 +174,6 @@ def gone_forth(session, number):
     return "forth %d to %s\n" % (number, session.place_and_clock())
 
 
-def is_line(words):
-    return len(words) == 2 and words[0] == b"LINE"
-
-
 def goto(session, words):
     count(words, 1)
     number, now = digits_of(words[0]), len(session.changes)
@@ -182,24 +182,20 @@ def goto(session, words):
     return gone_back(session, now - number) if number < now else gone_forth(session, number - now)
 
 
-def trace(session, words):
-    if len(words) > 1:
-        raise Fault("C2")
-    return ran(session, digits_of(words[0]) if words else 1, False, traces=True)
+def place_of_break(session, words):
+    """The cell of a line, or one that is given."""
+    if len(words) == 2 and words[0] == b"LINE":
+        return line_place(session, words[1])
+    count(words, 1)
+    return place_in_range(expression_in(session, words[0]))
 
 
 def break_(session, words):
-    if is_line(words):
-        return session.change_or_refuse(("break", line_place(session, words[1])))
-    count(words, 1)
-    return session.change_or_refuse(("break", place_in_range(expression_in(session, words[0]))))
+    return session.change_or_refuse(("break", place_of_break(session, words)))
 
 
 def clear(session, words):
-    if is_line(words):
-        return session.change_or_refuse(("clear", line_place(session, words[1])))
-    count(words, 1)
-    return session.change_or_refuse(("clear", place_in_range(expression_in(session, words[0]))))
+    return session.change_or_refuse(("clear", place_of_break(session, words)))
 
 
 def set_(session, words):
