@@ -188,10 +188,6 @@ def jump(w, m, keeps_j=False):
     w.loc = target
 
 
-def with_unit(w, f, unit):
-    w.units = w.units[:f] + (unit,) + w.units[f + 1:]
-
-
 def transfer(w, op, f, m, sign):
     """IN, OUT and IOC. The clock stood one lower before this step."""
     kind, unit = kind_of(f), w.units[f]
@@ -209,7 +205,7 @@ def transfer(w, op, f, m, sign):
         else:
             unit = write(kind, unit, w.registers["X"], [w.cell(place) for place in cells])
     w.clock, unit = begun(w.clock - 1, unit)
-    with_unit(w, f, unit)
+    w.units = w.units[:f] + (unit,) + w.units[f + 1:]
 
 
 def jump_on_unit(w, op, f, m, sign):
@@ -240,17 +236,10 @@ def jump_on_register(w, op, f, m, sign):
         jump(w, m)
 
 
-ACTIONS = {
-    "NOP": nothing, "HLT": nothing, "NUM": to_number, "CHAR": to_characters,
-    "ADD": add_or_subtract, "SUB": add_or_subtract, "MUL": multiply, "DIV": divide,
-    "SLA": shift_bytes, "SRA": shift_bytes, "SLAX": shift_bytes, "SRAX": shift_bytes, "SLC": shift_bytes,
-    "SRC": shift_bytes, "MOVE": move,
-    "LD": load, "LDN": load, "ST": store, "STZ": store, "CMP": compare_register,
-    "JMP": jump_always, "JSJ": jump_always, "JOV": jump_on_overflow, "JNOV": jump_on_overflow,
-    "JL": jump_on_comparison, "JE": jump_on_comparison, "JG": jump_on_comparison, "JGE": jump_on_comparison,
-    "JNE": jump_on_comparison, "JLE": jump_on_comparison,
-    "J N": jump_on_register, "J Z": jump_on_register, "J P": jump_on_register, "J NN": jump_on_register,
-    "J NZ": jump_on_register, "J NP": jump_on_register,
-    "IN": transfer, "OUT": transfer, "IOC": transfer, "JBUS": jump_on_unit, "JRED": jump_on_unit,
-    "INC": increase, "DEC": increase, "ENT": enter, "ENN": enter,
-}
+ACTIONS = {kind: action for kinds, action in {
+    "NOP,HLT": nothing, "NUM": to_number, "CHAR": to_characters, "ADD,SUB": add_or_subtract, "MUL": multiply, "DIV": divide,
+    "SLA,SRA,SLAX,SRAX,SLC,SRC": shift_bytes, "MOVE": move, "LD,LDN": load, "ST,STZ": store, "CMP": compare_register,
+    "JMP,JSJ": jump_always, "JOV,JNOV": jump_on_overflow, "JL,JE,JG,JGE,JNE,JLE": jump_on_comparison,
+    "J N,J Z,J P,J NN,J NZ,J NP": jump_on_register, "IN,OUT,IOC": transfer, "JBUS,JRED": jump_on_unit,
+    "INC,DEC": increase, "ENT,ENN": enter,
+}.items() for kind in kinds.split(",")}

@@ -10,7 +10,6 @@ from words import ZERO, char_of, bytes_of, number
 
 MOST = 1000  # blocks or rows of a list
 UNITS = 21
-CELLS = 4000
 
 # What a kind of unit can do: a medium (tapes and disks) is read and written, an input list is read,
 # an output list is written.
