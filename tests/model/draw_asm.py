@@ -3,6 +3,7 @@
 import random
 
 import draw_request as texts
+from draw_text import WRONG_ENDS, wrong_line
 from lines import OPERATIONS
 
 MACHINE = [name for name, op in OPERATIONS.items() if op[0] == "machine"]
@@ -185,33 +186,7 @@ class Draft:
         self.say(loc, b"END", address)
 
 
-# A line that is at fault, mostly; where more than one fault is in it, the first is told.
-WRONG = b"""X? NOP/X NOP?/X LDA 5?/ ? ?/X/X ADDD/5 NOP/2F NOP/ABCDEFGHIJK NOP/2B EQU 5/ JMP ABCDEFGHIJK/ JMP 2H/ LDA 5+
- LDA 1+-2/ LDA 5(5/ LDA 5$/ LDA Q)/ LDA =3/ LDA =3=+1/ EQU/X EQU/ ORIG/ CON/ CON 1,/ LDA 12345678901/ CON 1073741824
- LDA Q+1/ LDA Q*2/ LDA -Q/ CON Q/ CON 2F/ ORIG Q/X EQU X/X EQU X+1/ CON 3F/ LDA 2F+1/ CON 5//0/ CON 1073741823+1/ LDA 5/0
- LDA 4096/ LDA -4096/ LDA 1:0:0/ LDA 1073741823/ STA 4096,7/ LDA 0,7/ LDA 0(64)/ CON 1(6)/ LDA 0,-1/ LDA 5/0,7
- ORIG 4001/ ORIG -1/ ORIG 1073741823/ ORIG 4001X/ ALF "A/ ALF "ABCDEF"/ ALF A?/ ALF "?"/ ALF "?/ CON 8B/ LDA 8B/ LDA 8B+Q
- LDA Q+8B/ JMP 8F/ LDA =Q=/ LDA ==/ LDA =8B=/ LDA =1(6)=/ LDA =5/0=/ LDA =2F=/ LDA =12345678901=/ LDA =5$=/ LDA =1073741823+1=
- LDA ,7/ LDA (64)/ LDA X,7(64)/ CON -5(0:6)/X EQU 5000/Y EQU -4096/2H EQU 4096/Z EQU 4095+1/Y EQU 1073741823/9H EQU -5000""".replace(b"\n", b"/").replace(b"5//0", b"5@0")
-WRONG = [line.replace(b"5@0", b"5/0") for line in WRONG.replace(b"5/0", b"5@0").replace(b"1//3", b"1@@3").split(b"/")]
 AT_THE_END = b"""ORIG 4000/ORIG 3999/ORIG 3998/LDA =Q=/LDA =1(9)=/LDA =7=/JMP 7F/JMP NOWHERE/LDA =NOWHERE=/JMP 7F/JMP NOWHERE2/LDA =*=""".split(b"/")
-WRONG_ENDS = b""" END 4000/ END 4095/ END Q/ END Q+1/ END 2F/ END 8B/ END 5?/ END?/X END? /X END 5/X END X/Y END NOWHERE/2H END 2B
-7H END/7H END 4000/ END ABCDEFGHIJK/ END 12345678901/ END 5/0/ END 1,/ END 1(6)/NOWHERE END NOWHERE/ END NOWHERE
- END 0(0:5),62(4:4),31(5:5)/ END 0(0:5),62(4:4),32(5:5)/ EN/ END -4000/2F END/ END *""".replace(b"\n", b"/").replace(b"5/0", b"5@0").split(b"/")
-WRONG_ENDS = [line.replace(b"@", b"/") for line in WRONG_ENDS]
-
-
-def wrong_line(draft):
-    """A line with a fault, mostly."""
-    r = draft.r
-    kind = r.randrange(12)
-    if kind < 2 and draft.defined:  # a name twice, and perhaps another fault
-        address = r.choice((b"5", b"Q", b"4096", b"4001", b"5+", b"5?", b"0,7"))
-        return texts.folded(r, r.choice(draft.defined)) + b" " + r.choice(b"EQU NOP ORIG CON ALF LDA ADDD".split()) + b" " + address
-    waiting = [name for name in draft.used if name not in draft.defined] + [b"%dH" % digit for digit in draft.ahead]
-    if kind < 6 and waiting:  # an address that doesn't fit, or just does
-        return r.choice(waiting) + b" EQU " + r.choice(b"4096 -4096 4095 -4095 5000 -0 4095+1 4096(0:3) 4096(4:5) 1073741823 4096? 4096)".split())
-    return r.choice(WRONG) if kind < 9 else texts.line(r).replace(b"\n", b"")
 
 
 def source(r):
