@@ -3,6 +3,7 @@
 import random
 
 import draw_request as texts
+from draw import huge_source
 from draw_text import WRONG_ENDS, wrong_line
 from lines import OPERATIONS
 
@@ -15,6 +16,7 @@ PLACES = b"0 0 0 0 1 1 2 5 10 30 100 100 100 105 1000 1000 3990 3990 3996 3998 3
 WINDOWS = [(0, 40), (95, 130), (995, 1020), (3980, 3999)]
 FIELDS = b"0:5 1:5 0:2 3:3 4:4 5:5 1:1 0:0 4:5 1:3 5 8 36".split()
 ENDS = [b"\n"] * 12 + [b"\r\n"] * 3
+AT_THE_END = b"""ORIG 4000/ORIG 3999/ORIG 3998/LDA =Q=/LDA =1(9)=/LDA =7=/JMP 7F/JMP NOWHERE/LDA =NOWHERE=/JMP 7F/JMP NOWHERE2/LDA =*=""".split(b"/")
 
 
 class Draft:
@@ -186,9 +188,6 @@ class Draft:
         self.say(loc, b"END", address)
 
 
-AT_THE_END = b"""ORIG 4000/ORIG 3999/ORIG 3998/LDA =Q=/LDA =1(9)=/LDA =7=/JMP 7F/JMP NOWHERE/LDA =NOWHERE=/JMP 7F/JMP NOWHERE2/LDA =*=""".split(b"/")
-
-
 def source(r):
     """The lines of a source, accepted ones and those with some faults in about equal parts."""
     draft = Draft(r)
@@ -220,35 +219,11 @@ def joined(r, lines):
     return text.rstrip(b"\r\n") if r.randrange(20) == 0 else text
 
 
-def huge(r, which):
-    """At a limit of size or past it, and long chains."""
-    kind, more = divmod(which % 18, 2)
-    if kind == 0:
-        return b"\n" * (19999 + more) + b" END 0\n"
-    if kind == 1:
-        return b"* \n" * (20000 + more)
-    if kind == 2:
-        return b" JMP X\n" * (3999 + more) + b" END 0\n"  # and X, which no line defines
-    if kind == 3:
-        return b" LDA =%d=\n" % r.randrange(9) * (2000 + more) + b" END 0\n"
-    if kind == 4:
-        return b" END 0\n" + b"*" * (1048576 - 8 + more) + b"\n"
-    if kind == 5:  # chains that run through cells which are overwritten
-        return b"".join(r.choice((b" JMP X\n", b" JMP Y\n", b" JMP 2F\n", b" ORIG 0\n", b"2H NOP\n")) for _ in range(9000)) + \
-            r.choice((b"X EQU -7\n", b"X EQU 4095\n", b"X EQU 4096\n", b"")) + b"2H HLT\n END Y\n"
-    if kind == 6:
-        return b"".join(b"N%d EQU %d\n" % (at, at % 5000 - 500) for at in range(6000)) + b" CON N77\n JMP N%d\n END\n" % r.randrange(6000)
-    if kind == 7:
-        return b"".join(b" LDA N%d\n" % at for at in range(1500 + more)) + \
-            b"".join(b"N%d CON %d\n" % (at, at) for at in range(0, 1500, 2)) + b" END 0\n"
-    return b" JMP 2F\n2H JMP 2B\n ORIG 0\n" * 5000 + b"2H END 2B\n"
-
-
 def numbered_source(seed, k):
     """Source K of a seed, whichever were drawn before it."""
     r = random.Random("%s/%d" % (seed, k))
     if k % 500 == 499:
-        return huge(r, k // 500)
+        return huge_source(r, k // 500)
     text = joined(r, source(r))
     if r.randrange(40) == 0:
         return text[:r.randrange(len(text) + 1)]

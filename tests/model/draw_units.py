@@ -4,6 +4,7 @@ The source is END alone and every instruction is put by `set cell`, so a program
 
 import random
 
+from draw import full_lists
 from draw_machine import Scene, any_word
 from units import KINDS
 
@@ -241,49 +242,11 @@ def joined(r, lines):
     return b"".join(line + (b"\n" if plain else r.choice(ENDS)) for line in lines)
 
 
-# Full lists
-
-
-def full(r, which):
-    """Lists of 1,000 and one more, in the deck and by OUT; now and then the largest deck."""
-    kind, more = divmod(which % 20, 2)
-    card = b"%%UNIT %d\n" % r.choice((16, 19, 20))
-    if kind < 2:
-        last = r.choice((b"A", b"", b"?", b"?", b"x" * 100, b"x" * 100)) + b"\n"
-        return card + b"A\n" * 999 + (b"\n" * more) + last + b"%UNIT 3\n", [b"show unit 16", b"step"]
-    if kind == 2:
-        words = b"+0000000001 " * 100
-        last = r.choice((b"+0000000001 +6400000000", b"x", b"", b"+0000000001")) if more else b""
-        return b"%%UNIT %d\n" % r.randrange(16) + (words + b"\n") * 1000 + last + b"\n%UNIT 16\n", [b"step"]
-    if kind == 3:
-        words = b"+0000000001 " * 99
-        last = b"+6400000000 " * more + b"+0000000001 +0000000001\n"  # the block before it ends in this line
-        return b"%%UNIT %d\n" % r.randrange(16) + words + b"\n" + (b"+0000000001 " * 100 + b"\n") * 999 + last, [b"step"]
-    if kind == 4 and which % 3 == 0:
-        return b" " * (33554431 + more) + b"\n", [b"step"]
-    unit = r.choice((17, 18, 18, 19, 20, r.randrange(8), r.randrange(8)))
-    out = ((100 * 64 + 0) * 64 + unit) * 64 + 37
-    page = unit * 64 + 35
-    lines = [b"set cell 0 %d" % out, b"set cell 1 39", b"set cell 100 %d" % r.randrange(2**30), b"step %d" % (1998 + more),
-             b"show regs", b"step 3"]
-    if unit == 18 and r.randrange(2):
-        lines += [b"set cell 2 %d" % page, b"set loc 2", b"step", b"back 2"]
-    if kind > 7:
-        unit = r.randrange(8, 16)
-        out += unit - out // 64 % 64 * 1 and (unit - (out // 64) % 64) * 64
-        lines = [b"set cell 0 %d" % out, b"set X %d" % (999 + more),
-                 b"set cell 100 7", b"step", b"show regs", b"set X 998", b"set loc 0", b"step",
-                 b"back 4", b"show unit %d" % unit]
-    elif unit > 16 or r.randrange(3) == 0:
-        lines += [b"show unit %d" % unit, b"back 1999", b"show unit %d" % unit]
-    return r.choice((b"", b"%%UNIT %d delay 5\n" % unit)), lines
-
-
 def numbered(seed, k):
     """Bundle K of a seed, whichever were drawn before it."""
     r = random.Random("%s/%d" % (seed, k))
     if k % 100 == 99:
-        text, lines = full(r, k // 100)
+        text, lines = full_lists(r, k // 100)
         return b" END 0\n%DEVICES\n" + text + b"%SCRIPT\n" + b"".join(line + b"\n" for line in lines)
     wrong = r.randrange(3) == 0
     lines, units = deck(r, wrong)
