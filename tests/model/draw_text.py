@@ -1,4 +1,4 @@
-"""Lines as a source and a script have them, right ones and wrong ones."""
+"""Lines as a source, a deck and a script have them, right ones and wrong ones."""
 
 import draw_request as texts
 from draw_machine import CELLS, EDGES, REGISTERS, any_word, short, text
@@ -99,6 +99,49 @@ def wrong_line(draft):
     if kind < 6 and waiting:  # an address that doesn't fit, or just does
         return r.choice(waiting) + b" EQU " + r.choice(BESIDE_TWO_BYTES)
     return r.choice(WRONG_LINES) if kind < 9 else texts.line(r).replace(b"\n", b"")
+
+
+# The lines of a deck
+
+CHARACTERS = b"ABIJRSZ09.,()+-*/=$<>@;:'~[# az"
+
+
+def header_line(r, unit, delay=None):
+    number = b"%d" % unit if unit > 9 or r.randrange(4) else b"%02d" % unit
+    line = r.choice((b"%UNIT", b"%UNIT", b"%UNIT", b"%unit", b"%Unit")) + blanks(r) + number
+    if delay is not None:
+        line += blanks(r) + r.choice((b"delay", b"delay", b"DELAY", b"dElAy")) + blanks(r) + delay
+    return line + r.choice((b"", b"", b"", b"", b" ", b"\t"))
+
+
+def blanks(r):
+    return r.choice((b" ", b" ", b" ", b"  ", b"\t", b" \t"))
+
+
+def word_text(r):
+    sign, magnitude = any_word(r)
+    return sign.encode() + b"".join(b"%02d" % (magnitude >> shift & 63) for shift in (24, 18, 12, 6, 0))
+
+
+def medium_lines(r, blocks):
+    """The lines of so many blocks."""
+    words = [word_text(r) if r.randrange(3) == 0 else b"+0000000000" for _ in range(100 * blocks)]
+    lines = []
+    while words:
+        count = r.choice((1, 5, 5, 5, 10, 10, 20, 100, 130))
+        lines.append(r.choice((b"", b"", b" ")) + blanks(r).join(words[:count]) if r.randrange(8) else b" ".join(words[:count]) + b" ")
+        words = words[count:]
+        if r.randrange(20) == 0:
+            lines.append(r.choice((b"", b" ", b"\t ")))
+    return lines
+
+
+def written_line(r, width):
+    size = r.choice((0, 1, 3, 5, 20, width - 1, width, width)) if r.randrange(3) else r.randrange(12)
+    line = bytes(r.choice(CHARACTERS) for _ in range(size))
+    if r.randrange(6) == 0:
+        line = line.replace(b"A", b"\t")
+    return line + r.choice((b"", b"", b"", b" ", b"\t", b" " * 90))
 
 
 # Commands

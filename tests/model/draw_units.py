@@ -1,4 +1,4 @@
-"""Random decks and transfers, towards edges and faults: `python3 tests/model/draw_units.py SEED K` prints bundle K of a seed.
+"""Random decks and transfers, towards edges and faults.
 
 The source is END alone and every instruction is put by `set cell`, so a program without the whole assembler can be compared too."""
 
@@ -6,9 +6,9 @@ import random
 
 from draw import full_lists
 from draw_machine import Scene, any_word
+from draw_text import header_line, medium_lines, word_text, written_line
 from units import KINDS
 
-CHARACTERS = b"ABIJRSZ09.,()+-*/=$<>@;:'~[# az"
 NO_CHARACTERS = [b"?", b'"', b"\xff", b"\x00", b"!", b"_", b"\r", b"%", b"\x0b"]
 ENDS = [b"\n"] * 14 + [b"\r\n"] * 2
 DELAYS = b"0 1 2 3 5 10 10 30 100 1000 000000000000000007 999999999999999999 999999999999999998 500000000000000000".split()
@@ -19,48 +19,10 @@ WRONG_WORDS = b"""0000000007 +000000007 +00000000070 +6400000000 +0000000064 -00
     +0000000007+0000000007 *0000000007 +0000_00007 %UNIT +0000000007, \xff""".split()
 
 
-def header(r, unit, delay=None):
-    number = b"%d" % unit if unit > 9 or r.randrange(4) else b"%02d" % unit
-    line = r.choice((b"%UNIT", b"%UNIT", b"%UNIT", b"%unit", b"%Unit")) + blanks(r) + number
-    if delay is not None:
-        line += blanks(r) + r.choice((b"delay", b"delay", b"DELAY", b"dElAy")) + blanks(r) + delay
-    return line + r.choice((b"", b"", b"", b"", b" ", b"\t"))
-
-
-def blanks(r):
-    return r.choice((b" ", b" ", b" ", b"  ", b"\t", b" \t"))
-
-
-def word(r):
-    sign, magnitude = any_word(r)
-    return sign.encode() + b"".join(b"%02d" % (magnitude >> shift & 63) for shift in (24, 18, 12, 6, 0))
-
-
-def medium(r, blocks):
-    """The lines of so many blocks."""
-    words = [word(r) if r.randrange(3) == 0 else b"+0000000000" for _ in range(100 * blocks)]
-    lines = []
-    while words:
-        count = r.choice((1, 5, 5, 5, 10, 10, 20, 100, 130))
-        lines.append(r.choice((b"", b"", b" ")) + blanks(r).join(words[:count]) if r.randrange(8) else b" ".join(words[:count]) + b" ")
-        words = words[count:]
-        if r.randrange(20) == 0:
-            lines.append(r.choice((b"", b" ", b"\t ")))
-    return lines
-
-
-def written_line(r, width):
-    size = r.choice((0, 1, 3, 5, 20, width - 1, width, width)) if r.randrange(3) else r.randrange(12)
-    line = bytes(r.choice(CHARACTERS) for _ in range(size))
-    if r.randrange(6) == 0:
-        line = line.replace(b"A", b"\t")
-    return line + r.choice((b"", b"", b"", b" ", b"\t", b" " * 90))
-
-
 def contents(r, unit):
     kind = KINDS[unit]
     if kind.medium:
-        return medium(r, r.choice((0, 1, 1, 2, 3)))
+        return medium_lines(r, r.choice((0, 1, 1, 2, 3)))
     if kind.input:
         return [written_line(r, 5 * kind.size) for _ in range(r.choice((0, 1, 1, 2, 4)))]
     return [b"", b" \t"][:r.randrange(3)]
@@ -74,7 +36,7 @@ def deck(r, wrong):
         if unit in units and not (wrong and r.randrange(4) == 0):
             continue
         delay = r.choice(DELAYS) if r.randrange(2) or unit in (17, 18) else None
-        lines += [header(r, unit, delay)] + contents(r, unit)
+        lines += [header_line(r, unit, delay)] + contents(r, unit)
         units.append(unit)
     if wrong:
         for _ in range(r.choice((1, 1, 1, 2, 2, 3))):
@@ -93,7 +55,7 @@ def spoil(r, lines):
     elif kind < 3 and headers:
         lines.insert(at, lines[r.choice(headers)])
     elif kind < 5:
-        lines.insert(at, r.choice(WRONG_WORDS) if r.randrange(2) else word(r))
+        lines.insert(at, r.choice(WRONG_WORDS) if r.randrange(2) else word_text(r))
     elif kind < 7 and headers:
         at = r.choice(headers) + 1
         lines.insert(at, written_line(r, r.choice((70, 80))) + r.choice((b"X", b"?", b"XXXXXXXXXXX", b"?" * 80)))
