@@ -3,7 +3,7 @@
 import random
 
 from draw_machine import Scene, one, several
-from draw_text import BLANKS, ENDS, dressed, right_command, source, source_line, wrong_command
+from draw_text import BLANKS, dressed, joined, right_command, source, source_line, wrong_command
 
 SHOWS = [b"show regs", b"show changes", b"show clock"]
 
@@ -38,13 +38,6 @@ def command_script(r):
         if r.randrange(4) == 0:
             lines.append(r.choice(SHOWS))
     return lines
-
-
-def joined(r, lines):
-    """The lines with their ends, in one manner or mixed."""
-    if r.randrange(6):
-        return b"".join(line + b"\n" for line in lines)
-    return b"".join(line + r.choice(ENDS) for line in lines)
 
 
 def marker(r, name):

@@ -147,6 +147,11 @@ def long(r, which):
     return [b"X OUT 0(19)", b" JMP X", b" END X"], [b"run 3000", b"show changes", b"back 1000", b"forth 1000", b"show unit 19", b"back all", b"show all"]
 
 
+def before_script(r, lines, deck):
+    """Source and deck, and the marker that ends them."""
+    return draw_asm.joined(r, lines).rstrip(b"\r\n") + b"\n" + (b"%DEVICES\n" + draw_units.with_ends(r, deck) if deck else b"") + b"%SCRIPT\n"
+
+
 def numbered(seed, k):
     """Bundle K of a seed, whichever were drawn before it."""
     r = random.Random("%s/%d" % (seed, k))
@@ -156,5 +161,4 @@ def numbered(seed, k):
     else:
         lines, commands = source(r), script(r)
         deck = r.choice(DECKS) if r.randrange(8) else draw_units.deck(r, False)[0]
-    return draw_asm.joined(r, lines).rstrip(b"\r\n") + b"\n" + (b"%DEVICES\n" + draw_units.joined(r, deck) if deck else b"") + \
-        b"%SCRIPT\n" + draw_asm.joined(r, commands)
+    return before_script(r, lines, deck) + draw_asm.joined(r, commands)

@@ -4,7 +4,6 @@ import random
 
 import draw_asm
 import draw_commands as others
-import draw_units
 from draw_text import dressed
 
 COUNTS = b"0 1 1 2 2 3 4 5 7 10 20 100 0000000002 00000000002 9999999999 -1 X".split()
@@ -58,5 +57,4 @@ def numbered(seed, k, drawn=command, last=lambda r: []):
     r = random.Random("%s/%d" % (seed, k))
     source = [line.encode() for line in r.choice(MORE)] if r.randrange(2) else others.source(r)
     deck = r.choice(DECKS if r.randrange(2) else others.DECKS)
-    return draw_asm.joined(r, source).rstrip(b"\r\n") + b"\n" + (b"%DEVICES\n" + draw_units.joined(r, deck) if deck else b"") + \
-        b"%SCRIPT\n" + draw_asm.joined(r, script(r, drawn) + last(r))
+    return others.before_script(r, source, deck) + draw_asm.joined(r, script(r, drawn) + last(r))

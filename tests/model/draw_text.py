@@ -88,6 +88,12 @@ def source(r, simple):
     return lines + [source_line(r) for _ in range(r.choice((0, 0, 0, 0, 1, 2)))]
 
 
+def joined(r, lines, one_in=6, ends=ENDS):
+    """The lines with their ends: in one manner, or mixed once in so many."""
+    plain = r.randrange(one_in)
+    return b"".join(line + (b"\n" if plain else r.choice(ends)) for line in lines)
+
+
 def wrong_line(draft):
     """A line with a fault, mostly."""
     r = draft.r

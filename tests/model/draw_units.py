@@ -6,7 +6,7 @@ import random
 
 from draw import full_lists
 from draw_machine import Scene, any_word
-from draw_text import header_line, medium_lines, word_text, written_line
+from draw_text import header_line, joined, medium_lines, word_text, written_line
 from units import KINDS
 
 NO_CHARACTERS = [b"?", b'"', b"\xff", b"\x00", b"!", b"_", b"\r", b"%", b"\x0b"]
@@ -199,9 +199,8 @@ def script(r, units):
     return [line.encode() for line in scene.lines]
 
 
-def joined(r, lines):
-    plain = r.randrange(5)
-    return b"".join(line + (b"\n" if plain else r.choice(ENDS)) for line in lines)
+def with_ends(r, lines):
+    return joined(r, lines, 5, ENDS)
 
 
 def numbered(seed, k):
@@ -212,9 +211,9 @@ def numbered(seed, k):
         return b" END 0\n%DEVICES\n" + text + b"%SCRIPT\n" + b"".join(line + b"\n" for line in lines)
     wrong = r.randrange(3) == 0
     lines, units = deck(r, wrong)
-    text = joined(r, lines)
+    text = with_ends(r, lines)
     if wrong and r.randrange(12) == 0:
         text = text[:r.randrange(len(text) + 1)]
     if text and not text.endswith(b"\n"):
         text += b"\n"
-    return b" END 0\n" + (b"%DEVICES\n" + text if text or r.randrange(2) else b"") + b"%SCRIPT\n" + joined(r, script(r, units))
+    return b" END 0\n" + (b"%DEVICES\n" + text if text or r.randrange(2) else b"") + b"%SCRIPT\n" + with_ends(r, script(r, units))
