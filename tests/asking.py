@@ -1,4 +1,5 @@
-"""Asks the debug adapter about the run of a program, and reads sources, words and expressions of MIXAL by the book's rules, for tests alone."""
+"""Asks the debug adapter about the run of a program, reads sources, words and expressions of MIXAL by the book's rules, and writes words, registers,
+rows and changes as the program does, for tests alone."""
 import operator
 import pathlib
 import re
@@ -60,6 +61,27 @@ class Machine:
 def word_of(text):
     sign, *bytes = text.split()
     return sign, [int(byte) for byte in bytes]
+
+
+def written(n, size=5):
+    """A number from 0 on as a word is written, or as a register of fewer bytes."""
+    return "+" + "".join(" %02d" % (n >> 6 * at & 63) for at in reversed(range(size)))
+
+
+def registers(location, clock, comparison, **held):
+    """The lines of `show regs` where overflow is off; a register that is not named holds zero."""
+    return [f"{name:2} {written(held.get(name, 0), 5 if name in 'AX' else 2)}" for name in REGISTERS] + \
+        ["over off cmp %s loc %04d clock %d" % (comparison, location, clock)]
+
+
+def row(text, width=120):
+    """A row of the printer, or of another unit that writes characters."""
+    return "> " + text.ljust(width)
+
+
+def change(n, place, text, time, *items):
+    """The line of a change."""
+    return "".join(["%7d  %04d  %-17s  %3du" % (n, place, text, time)] + ["  " + item for item in items])
 
 
 def field_of(word, left=0, right=5):
