@@ -15,12 +15,10 @@ What a command asks for is what a script asks for with it as the last line, beyo
 
 import os
 
-from memory import library
-from running import Count, Runner, folder, lines
+from memory import FIRST, MOVE
+from running import Count, Runner, folder, library, lines
 
-FIRST = lines(" ENTA 5", " INCA 7", " STA 100", " HLT", " END 0")
 LOOP = lines(" JMP *", " END 0")
-MOVE = lines(" ENT1 101", " MOVE 100(63)", " END 0")
 CELLS = 4000 * 4
 RUN, PLACE = 16, 8
 UNIT, MOST = 4, 104 * 3  # units of a step at most

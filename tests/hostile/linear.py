@@ -7,8 +7,7 @@ import os
 import re
 import subprocess
 
-from memory import library
-from running import HERE, Count, bundle, folder, lines
+from running import HERE, Count, bundle, folder, library, lines
 
 # Twice, and a tenth for what is done once and for the lengths of numbers.
 MOST = 2.2

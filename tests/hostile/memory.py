@@ -8,13 +8,14 @@ On a program of the repository's own (tests/hostile/again) the call that was ref
 refused."""
 
 import concurrent.futures
+import itertools
 import multiprocessing
 import os
+import pathlib
 import re
-import subprocess
 
 from cuts import DECK, GREETED, HELLO
-from running import HERE, TOP, Count, Runner, bundle, folder, lines, shown, takes_words
+from running import Count, Runner, bundle, folder, library, lines, shown, takes_words
 
 T1 = b"mixrev: T1 out of memory\n"
 OWN = 9  # the status of tests/hostile/again where its own needs were refused
@@ -72,13 +73,6 @@ def bundles(shows_all):
     yield "a script that is too long", FIRST, None, b"\n" * 1048577
 
 
-def library(place):
-    """The library in front of the C library's, built in a folder."""
-    name = os.path.join(place, "refuse.so")
-    subprocess.run(["cc", "-shared", "-fPIC", "-O1", "-o", name, os.path.join(HERE, "refuse.c"), "-ldl"], check=True)
-    return name
-
-
 class Refusing:
     """A program whose allocation of one number is refused."""
 
@@ -95,23 +89,25 @@ class Refusing:
                                                "REFUSED_TO": self.told})
         return answer, os.path.exists(self.told)
 
+    def in_turn(self, text, words=(), counts=(1,)):
+        """Each number, the answer where so many allocations from it on are refused, and whether it was asked for; one that was not ends them."""
+        for n, more in itertools.product(range(1, MOST), counts):
+            answer, refused = self.run(n, text, words, more)
+            yield n, answer, refused
+            if not refused:
+                return
+
 
 def refused_in_turn(program, place, text, words=()):
     """How many allocations there are, and the first answer that is wrong, with the number that was refused."""
     refusing = Refusing(program, place)
     whole = refusing.runner.run(text, words)
-    for n in range(1, MOST):
-        for more in (1, MOST):
-            answer, refused = refusing.run(n, text, words, more)
-            if not refused:
-                return n - 1, None if answer == whole else (n, answer, "as with memory")
-            if answer[1:] != (T1, 2) or not whole[0].startswith(answer[0]):
-                return n - 1, (n, answer, "T1 after a beginning of what is due")
+    for n, answer, refused in refusing.in_turn(text, words, (1, MOST)):
+        if not refused:
+            return n - 1, None if answer == whole else (n, answer, "as with memory")
+        if answer[1:] != (T1, 2) or not whole[0].startswith(answer[0]):
+            return n - 1, (n, answer, "T1 after a beginning of what is due")
     return MOST, (MOST, whole, "an end")
-
-
-def one(program, place, name, text, words):
-    return (name,) + refused_in_turn(program, place, text, words)
 
 
 def shows_all(program, text):
@@ -126,8 +122,7 @@ def cases(program, place):
         if takes_words(program):
             files = [os.path.join(place, "%s of %s" % (part, name.replace("/", "-"))) for part in ("source", "script", "deck")]
             for file, part in zip(files, (source, script, deck or b"")):
-                with open(file, "wb") as written:
-                    written.write(part)
+                pathlib.Path(file).write_bytes(part)
             yield name + ", listed", b"", ("list", files[0])
             yield name + ", by debug", b"", ("debug", files[0], files[1], "--devices", files[2])
 
@@ -136,10 +131,10 @@ def rows(program, workers, quick=False, again=None):
     count, total = Count(), 0
     with folder() as place:
         library(place)
-        every = [case for case in cases(program, place) if not quick or case[0] in ("the first example", "a source with characters")]
-        jobs = [(one, program, place, *case) for case in every]
+        jobs = [(name, refused_in_turn, program, place, *given) for name, *given in cases(program, place)
+                if not quick or name in ("the first example", "a source with characters")]
         if again:
-            jobs += [(one_again, again, place, *case) for case in again_cases(again)]
+            jobs += [(name, made_again, again, place, *given) for name, *given in again_cases(again)]
         with concurrent.futures.ProcessPoolExecutor(workers, multiprocessing.get_context("fork")) as pool:
             for name, allocations, wrong in pool.map(call, jobs):
                 total += allocations
@@ -152,7 +147,9 @@ def rows(program, workers, quick=False, again=None):
 
 
 def call(job):
-    return job[0](*job[1:])
+    """The name of a job, and what its function finds."""
+    name, finds, *given = job
+    return name, *finds(*given)
 
 
 # ---- The same call made again
@@ -172,21 +169,21 @@ def again_cases(program):
         yield name + ", its journal", b"journal", source, deck, b"\n" * steps
 
 
-def one_again(program, place, name, how, source, deck, script):
+def made_again(program, place, how, source, deck, script):
+    """The same as refused_in_turn, of a program that makes the call again."""
     text = input_of(how, source, deck, script)
     refusing = Refusing(program, place)
     whole = refusing.runner.run(text)
     if whole[1:] != (b"", 0):
-        return name, 0, (0, whole, "a run that is accepted")
-    for n in range(1, MOST):
-        answer, refused = refusing.run(n, text)
+        return 0, (0, whole, "a run that is accepted")
+    for n, answer, refused in refusing.in_turn(text):
         if not refused:
-            return name, n - 1, None if answer == whole else (n, answer, "as with memory")
+            return n - 1, None if answer == whole else (n, answer, "as with memory")
         if answer == (b"", b"", OWN):
             continue
         if answer[0] != whole[0] or answer[2] != 0 or not is_unchanged(answer[1], script):
-            return name, n - 1, (n, answer, "the replies %r, and one refusal that left what is promised" % whole[0])
-    return name, MOST, (MOST, whole, "an end")
+            return n - 1, (n, answer, "the replies %r, and one refusal that left what is promised" % whole[0])
+    return MOST, (MOST, whole, "an end")
 
 
 TOLD = re.compile(rb"(?:assemble|units|load|open)\n|(?:step|forth) (\d+) (\d+) \d+ \d+ (\d+) (\d+)\n|command (\d+) (\d+) (\d+) \d+ \d+\n")
@@ -231,17 +228,13 @@ def stages(program, place, count):
     kept = "".join(line % rows[k] for k in (1, 2, 3, 4, 3, 2, 1, 0, 1, 2, 3, 4)).encode()
     count.same("what the first example keeps", refusing.runner.run(input_of(b"journal", FIRST, b"", b"\n" * 4)), (kept, b"", 0))
     met = set()
-    for n in range(1, MOST):
-        answer, refused = refusing.run(n, input_of(b"on", FIRST, b"", b"step 4\nshow clock\n"))
-        if not refused:
-            break
+    for n, answer, _ in refusing.in_turn(input_of(b"on", FIRST, b"", b"step 4\nshow clock\n")):
         match = re.fullmatch(rb"command 0 0 (\d+) (\d+) (\d+)\n", answer[1])
         if not match:
             continue
-        k = int(match[1])
+        k, *place_and_clock = map(int, match.groups())
         met.add(k)
-        place_and_clock = [(b"0", b"0"), (b"1", b"1"), (b"2", b"2"), (b"3", b"4"), (b"4", b"14")][k]
-        count.same("the machine after %d steps of step 4, allocation %d refused" % (k, n), (match[2], match[3]), place_and_clock)
+        count.same("the machine after %d steps of step 4, allocation %d refused" % (k, n), tuple(place_and_clock), rows[k][2:])
         if k < 4:
             # the same allocation is refused where the script has as many bytes
             answer, _ = refusing.run(n, input_of(b"on", FIRST, b"", b"step 4\nstep %d\n**" % (4 - k)))
@@ -249,10 +242,7 @@ def stages(program, place, count):
     count.row("step 4 was refused memory before its first step", 0 in met, repr(met))
     whole = b"ran 4 to 0004 clock 14: halt\n"
     met = 0
-    for n in range(1, MOST):
-        answer, refused = refusing.run(n, input_of(b"on", FIRST, b"", b"step 4\nback 2\nshow clock\n"))
-        if not refused:
-            break
+    for n, answer, _ in refusing.in_turn(input_of(b"on", FIRST, b"", b"step 4\nback 2\nshow clock\n")):
         match = re.fullmatch(rb"command 1 4 (\d+) (\d+) (\d+)\n", answer[1])
         if match:
             met += 1

@@ -1,4 +1,4 @@
-"""Runs of the built program: what the parts of `tests/hostile/run` have in common."""
+"""Runs of the built program, and the library in front of the C library's: what the parts of `tests/hostile/run` have in common."""
 
 import os
 import subprocess
@@ -48,3 +48,10 @@ def whole(text):
 
 def lines(*texts):
     return b"".join(text.encode() + b"\n" for text in texts)
+
+
+def library(place):
+    """The library in front of the C library's, built in a folder."""
+    name = os.path.join(place, "refuse.so")
+    subprocess.run(["cc", "-shared", "-fPIC", "-O1", "-o", name, os.path.join(HERE, "refuse.c"), "-ldl"], check=True)
+    return name

@@ -9,8 +9,7 @@ import subprocess
 import threading
 
 from cuts import GREETED, HELLO
-from memory import library
-from running import SECONDS, Count, bundle, folder, lines, takes_words
+from running import SECONDS, Count, bundle, folder, library, lines, takes_words
 
 TEXT = bundle(HELLO, GREETED)
 LONG = bundle(lines(" END 0"), lines(*["show cells 0 3999"] * 20))

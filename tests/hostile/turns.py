@@ -8,8 +8,8 @@ import itertools
 import os
 
 from cuts import GREETED, HELLO
-from memory import FIRST, library
-from running import Count, Runner, bundle, folder, lines
+from memory import FIRST
+from running import Count, Runner, bundle, folder, library, lines
 from streams import T2, T3
 from turned import COPY, COPIED, FAILED_LISTS, FAILED_READS, INSERTED, LISTED, PRINTED, REFUSED
 
