@@ -141,7 +141,7 @@ def strip(page, native, count):
         svg.dispatchEvent(new MouseEvent('click', { bubbles: true, clientX: b.left + b.width * 20.5 / 60, clientY: b.top + 20 }));""")
     page.idle()
     count.same("strip: a click goes there", (page.value("moment"), [int(told) for _, told, _, _ in page.script(SHOWN)]), (str(moments[20]), columns[20]))
-    count.same("strip: as one command", [command for command, _ in page.log()], ["run 1000000", f"goto {moments[20]}"])
+    count.same("strip: as one command", page.commands(), ["run 1000000", f"goto {moments[20]}"])
     saved = page.save()
     count.row("strip: kept in the file", b"\n* bars: KEY+1 KEY+N number strip\n" in saved, saved[-300:])
     root = tree.fromstring(page.copied("bars-copy"))

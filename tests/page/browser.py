@@ -25,7 +25,7 @@ let [head, tail] = [0, 0]; while (head < least && text[head] === old[head]) head
 while (tail < least - head && text[text.length - 1 - tail] === old[old.length - 1 - tail]) tail += 1;
 cm.focus(); cm.replaceRange(text.slice(head, text.length - tail), cm.posFromIndex(head), cm.posFromIndex(old.length - tail), 'paste');"""
 COPIED = """window.copiedText = null; window.addEventListener('copy', ({ clipboardData }) => { window.copiedText = clipboardData.getData('text/plain'); }, { once: true })"""
-EXAMPLES = sorted(path.stem for path in (pathlib.Path(__file__).resolve().parents[2] / "examples").glob("*.mixal"))
+EXAMPLES = sorted((pathlib.Path(__file__).resolve().parents[2] / "examples").glob("*.mixal"))
 PUT = """const e = document.getElementById(arguments[0]); e.focus(); e.value = arguments[1]; e.dispatchEvent(new Event('input', {bubbles: true}));"""
 
 
@@ -80,17 +80,15 @@ class Page:
             self.one("leave-yes").click()
 
     def idle(self):
-        end = time.monotonic() + SECONDS
-        while not self.script(IDLE):
-            if time.monotonic() > end:
-                raise TimeoutError("the page is still busy")
-            time.sleep(0.01)
+        if not self.wait(lambda: self.script(IDLE), SECONDS):
+            raise TimeoutError("the page is still busy")
 
     def wait(self, test, seconds=30):
-        """Waits until something holds, for some seconds at most."""
+        """Waits until something holds, for some seconds at most; whether it does."""
         end = time.monotonic() + seconds
-        while not test() and time.monotonic() < end:
-            time.sleep(0.02)
+        while not (holds := test()) and time.monotonic() < end:
+            time.sleep(0.01)
+        return holds
 
     def one(self, name):
         return self.driver.find_element(By.ID, name)
@@ -109,11 +107,6 @@ class Page:
     def caret(self, line, letter=0):
         """Puts the cursor of the source somewhere; lines are counted from 1."""
         self.script(EDITOR + "cm.focus(); cm.setCursor(arguments[0] - 1, arguments[1])", line, letter)
-
-    def spans(self, line):
-        """The words of a line of the source that have a colour, each with its kind."""
-        shown = "cm.scrollIntoView(arguments[0] - 1); const at = arguments[0] - 1 - cm.getViewport().from; const row = document.querySelectorAll('#listing .CodeMirror-line')[at]; "
-        return self.script(EDITOR + shown + "return [...row.querySelectorAll('span > span')].map(s => [s.textContent, s.className.replace('cm-', '')])", line)
 
     def points(self):
         """The lines with a breakpoint, of those that are drawn."""
@@ -175,7 +168,7 @@ class Page:
     def lesson(self, which):
         """Chooses a lesson: by the name of its folder, or an example by its place among them, or another by its number in the menu."""
         if isinstance(which, str) or which < len(EXAMPLES):
-            name = which if isinstance(which, str) else EXAMPLES[which]
+            name = which if isinstance(which, str) else EXAMPLES[which].stem
             which = self.script("return [...document.querySelectorAll('#lessons option')].find(o => o.dataset.name === arguments[0]).value", name)
         Select(self.one("lessons")).select_by_value(str(which))
         self.leave()
@@ -215,6 +208,9 @@ class Page:
         """Each command with its reply."""
         return [(command, f"{reply}\n" if reply else "") for command, reply in self.script(LOG)]
 
+    def commands(self):
+        return [command for command, _ in self.log()]
+
     def replies(self):
         return "".join(reply for _, reply in self.log())
 
@@ -229,9 +225,7 @@ class Page:
         for path in folder.glob("*.mixal"):
             path.unlink()
         self.click("save")
-        end = time.monotonic() + SECONDS
-        while not list(folder.glob("*.mixal")) and time.monotonic() < end:
-            time.sleep(0.02)
+        self.wait(lambda: list(folder.glob("*.mixal")), SECONDS)
         time.sleep(0.1)
         return next(folder.glob("*.mixal")).read_bytes()
 
@@ -254,9 +248,3 @@ class Page:
     def errors(self):
         """What the browser complains of."""
         return [entry["message"] for entry in self.driver.get_log("browser") if entry["level"] == "SEVERE"]
-
-    def shot(self, path, whole=False):
-        if whole:
-            width = self.script("return document.documentElement.clientWidth")
-            self.size(width, self.script("return document.documentElement.scrollHeight"))
-        self.driver.save_screenshot(str(path))

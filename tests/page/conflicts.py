@@ -1,6 +1,5 @@
 """Runs that stop at a step which conflicts with a transfer under way, where the box asks for it. The clocks are worked out by hand: an OUT takes 1 u, and
 its unit is busy for the delay after it."""
-from repairs import commands
 from uses import kept, natively
 
 # The OUT is over at 1, so the line is printed until 51. Change 4 begins at 3 and alters a cell of
@@ -45,7 +44,7 @@ def went(name, page, count, ways):
     for at, (button, command, said, met) in enumerate(ways, 1):
         page.click(button)
         where = f"{name} {at}: {button}"
-        count.same(f"{where}: the command", commands(page)[-1], command)
+        count.same(f"{where}: the command", page.commands()[-1], command)
         count.row(f"{where}: told", page.told().startswith(said), page.told())
         count.same(f"{where}: the cell", marked(page), [[*met, True, True]] if met else [])
 

@@ -58,7 +58,7 @@ def frame(page, native, count):
         page.driver.switch_to.default_content()
         if name == "wide":
             page.go(link)
-            count.same("frame: the whole page", (page.state(), page.log()[:-2], [command for command, _ in page.log()][-2:]), (state, log, ["forth 1", "back 1"]))
+            count.same("frame: the whole page", (page.state(), page.log()[:-2], page.commands()[-2:]), (state, log, ["forth 1", "back 1"]))
             count.row("frame: the whole page is whole", page.one("lessons").is_displayed() and not page.one("whole").is_displayed())
             count.same("frame: the whole page has the picture", (page.script(SAID), page.script(SHOWN)), picture)
             page.driver.get("about:blank")

@@ -4,7 +4,6 @@ import re
 import time
 import zlib
 
-from repairs import commands
 from selenium.webdriver.common.by import By
 
 
@@ -57,11 +56,11 @@ def asked(page, native, count):
     count.row("asked: the box", page.one("leave").is_displayed())
     page.driver.find_element(By.CSS_SELECTOR, "#leave button[value=stay]").click()
     page.idle()
-    count.same("asked: stay", [page.value("lessons"), commands(page)], [here, ["step 1"]])
+    count.same("asked: stay", [page.value("lessons"), page.commands()], [here, ["step 1"]])
     page.script("const l = document.getElementById('lessons'); l.value = '1'; l.dispatchEvent(new Event('change', {bubbles: true}));")
     page.leave()
     page.idle()
-    count.same("asked: leave", [page.value("lessons"), commands(page)], ["1", []])
+    count.same("asked: leave", [page.value("lessons"), page.commands()], ["1", []])
 
 
 GUARDS = (too_large, policy, asked)

@@ -1,5 +1,4 @@
 """The engine holds one session: what is sent for one thing done stays small, and a session that is lost is done again, once."""
-from repairs import commands
 from selenium.webdriver.common.keys import Keys
 from uses import natively
 
@@ -51,7 +50,7 @@ def requests(page, native, count):
     page.script("document.getElementById('slider').focus()")
     page.press(Keys.ARROW_LEFT)
     found = page.script(TAKEN)
-    count.row("requests: a key on the slider asks for one moment, once", len(found) <= 2 and commands(page)[-1].startswith("goto "), found)
+    count.row("requests: a key on the slider asks for one moment, once", len(found) <= 2 and page.commands()[-1].startswith("goto "), found)
     natively("requests", page, native, count)
 
 
@@ -73,10 +72,10 @@ def lost(page, native, count):
     page.click("step")
     sent = page.script(TAKEN)
     count.same("lost: all is done again, once", [is_new for is_new, _ in sent], [True, False])
-    count.same("lost: and the step", commands(page), [*[command for command, _ in log], "forth 1"])
+    count.same("lost: and the step", page.commands(), [*[command for command, _ in log], "forth 1"])
     page.script("window.broken = 'trapped'")
     page.slide(3)
-    count.same("lost: in a slide", commands(page)[-1], "forth 1")
+    count.same("lost: in a slide", page.commands()[-1], "forth 1")
     page.slide(0)
     page.click("to-end")
     natively("lost", page, native, count)
@@ -95,7 +94,7 @@ def far(page, native, count):
         page.click("run")
     page.press_button(page.all("#listing .line button")[0])
     page.click("to-break")
-    count.same("far: back to the first line", commands(page), [*["run 1000000"] * 3, "back 3000000"])
+    count.same("far: back to the first line", page.commands(), [*["run 1000000"] * 3, "back 3000000"])
     count.row("far: told", page.told().startswith("Breakpoint at line 1. 3,000,000 changes taken back."), page.told())
     natively("far", page, native, count)
     page.press_button(page.all("#listing .line button")[0])
@@ -105,10 +104,10 @@ def far(page, native, count):
     page.press_button(page.all("#listing .line button")[5])
     for name in ("to-start", "run", "run"):
         page.click(name)
-    count.same("far: to a breakpoint ahead, over two HLT", commands(page), ["run 1000000", "step 1", "run 1000000", "step 1", "run 1000000", "back all", "forth 5", "forth all"])
+    count.same("far: to a breakpoint ahead, over two HLT", page.commands(), ["run 1000000", "step 1", "run 1000000", "step 1", "run 1000000", "back all", "forth 5", "forth all"])
     page.click("to-break")
     page.click("to-break")
-    count.same("far: back to it, and to the start", commands(page)[-2:], ["back 2", "back all"])
+    count.same("far: back to it, and to the start", page.commands()[-2:], ["back 2", "back all"])
     natively("far: ahead", page, native, count)
 
 

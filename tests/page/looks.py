@@ -81,8 +81,7 @@ def keys(page, native, count):
         page.press(key)
     for held, key in ((Keys.SHIFT, Keys.F8), (Keys.SHIFT, Keys.F7), (Keys.CONTROL, Keys.F8), (Keys.CONTROL, Keys.F7)):
         page.chord(held, key)
-    done = [command for command, _ in page.log()]
-    count.same("keys: steps", done, ["step 1", "step 1", "back 1", "forth all", "run 1000000", "back all", "forth all", "back all"])
+    count.same("keys: steps", page.commands(), ["step 1", "step 1", "back 1", "forth all", "run 1000000", "back all", "forth all", "back all"])
     natively("keys: steps", page, native, count)
     page.caret(6)
     page.press(Keys.F9)
@@ -98,7 +97,7 @@ def keys(page, native, count):
     page.script("document.getElementById('slider').focus()")
     page.press(Keys.END)
     page.press(Keys.ARROW_LEFT)
-    count.same("keys: the slider, as one command", [command for command, _ in page.log()][-2:], ["show clock", "goto 3"])
+    count.same("keys: the slider, as one command", page.commands()[-2:], ["show clock", "goto 3"])
     page.script("document.querySelector('#register-rows button').focus()")
     page.press(Keys.ARROW_DOWN, Keys.ARROW_UP)
     page.press(Keys.ENTER)
@@ -186,7 +185,7 @@ def pictures(open_page, count):
                     page.size(width, height)
                     page.tab("program")
                     page.script("return new Promise((done) => requestAnimationFrame(() => requestAnimationFrame(done)))")
-                    page.shot(OUT / f"{name}-{width}-{shade}.png")
+                    page.driver.save_screenshot(str(OUT / f"{name}-{width}-{shade}.png"))
                 page.size(*SIZES[0])
             ink, ground = page.script("const s = getComputedStyle(document.documentElement); return [s.color, s.backgroundColor]")
             light = [sum(int(part) for part in colour.split("(")[1].split(")")[0].split(",")[:3]) for colour in (ink, ground)]
@@ -195,7 +194,7 @@ def pictures(open_page, count):
     with open_page(width=720) as page:
         page.command("Emulation.setEmulatedMedia", media="print")
         page.script("window.dispatchEvent(new Event('beforeprint'))")
-        page.shot(OUT / "on-paper.png")
+        page.driver.save_screenshot(str(OUT / "on-paper.png"))
         printed = page.script("return ['printed', 'listing'].map(id => document.getElementById(id).getClientRects().length > 0)")
         count.same("pictures: on paper the listing is a table", printed, [True, False])
 
@@ -233,9 +232,7 @@ def memory(page, native, count):
         count.same(f"{name}: the script", len(page.value("script-lines").splitlines()), 100)
 
     page.one("script-all").click()
-    end = time.monotonic() + 60
-    while not page.one("stop").is_displayed() and time.monotonic() < end:
-        time.sleep(0.02)
+    page.wait(lambda: page.one("stop").is_displayed(), 60)
     page.click("stop")
     count.row("stop: told, and as no fault", page.told().startswith("Stopped.") and page.one("status").get_attribute("class") == "", page.told())
     stands("stop")
@@ -245,5 +242,5 @@ def memory(page, native, count):
     page.click("back")
     page.click("run")
     page.click("run")
-    count.same("memory: it goes on", [command for command, _ in page.log()], ["step 1", "back 1", "forth 1", "run 5"])
+    count.same("memory: it goes on", page.commands(), ["step 1", "back 1", "forth 1", "run 5"])
     natively("memory: it goes on", page, native, count)

@@ -8,10 +8,6 @@ ACTIVE = "const e = document.activeElement; return e.id || e.getAttribute('aria-
 MARKED = "return [...document.querySelectorAll('.at .line button')].map(b => Number(b.textContent))"
 
 
-def commands(page):
-    return [command for command, _ in page.log()]
-
-
 def halts(page, native, count):
     """After a HLT neither Step nor Run goes on, however often they are asked, and a key that is held down is no asking; a button of its own does."""
     for name, keys in (("run", (Keys.SHIFT, Keys.F8)), ("step", (Keys.F8,))):
@@ -20,11 +16,11 @@ def halts(page, native, count):
         for _ in range(12 if name == "step" else 4):
             page.chord(*keys)
         done = ["step 1"] * 4 if name == "step" else ["run 1000000"]
-        count.same(f"halts: {name}: nothing more is done", commands(page), done)
+        count.same(f"halts: {name}: nothing more is done", page.commands(), done)
         count.same(f"halts: {name}: the HLT is marked, not what is behind it", page.script(MARKED), [7])
         count.same(f"halts: {name}: the buttons", [page.one(each).is_enabled() and page.one(each).get_attribute("aria-disabled") is None for each in ("step", "over", "out", "run", "back")], [False] * 4 + [True])
         page.click("beyond")
-        count.same(f"halts: {name}: the button goes on", (commands(page), page.one("beyond").is_displayed()), ([*done, "step 1"], False))
+        count.same(f"halts: {name}: the button goes on", (page.commands(), page.one("beyond").is_displayed()), ([*done, "step 1"], False))
         natively(f"halts: {name}", page, native, count)
     page.lesson(4)
     page.click("run")
@@ -50,13 +46,13 @@ def calls(page, native, count):
     for name in ("step", "over", "step", "step", "out"):
         page.click(name)
     wanted = ["step 1", "run 4", "step 1", "step 1", "run 2"]
-    count.same("calls: over and out", (commands(page), page.script(MARKED)), (wanted, [4]))
+    count.same("calls: over and out", (page.commands(), page.script(MARKED)), (wanted, [4]))
     for name in ("to-start", "step", "over"):
         page.click(name)
-    count.same("calls: over what was taken back", commands(page)[-3:], ["back all", "forth 1", "forth 4"])
+    count.same("calls: over what was taken back", page.commands()[-3:], ["back all", "forth 1", "forth 4"])
     page.press_button(page.all("#listing .line button")[5])
     page.click("over")
-    count.same("calls: to a breakpoint in it", (commands(page)[-1], page.script(MARKED)), ("forth 2", [6]))
+    count.same("calls: to a breakpoint in it", (page.commands()[-1], page.script(MARKED)), ("forth 2", [6]))
     natively("calls", page, native, count)
 
 
@@ -68,7 +64,7 @@ def words(page, native, count):
     page.lesson(0)
     for typed, _ in WORDS:
         page.say(typed)
-    count.same("words: what is shown", commands(page), [line or typed for typed, line in WORDS])
+    count.same("words: what is shown", page.commands(), [line or typed for typed, line in WORDS])
     replies, saved = "".join(reply for (_, line), (_, reply) in zip(WORDS, page.log()) if line), page.save().decode()
     count.same("words: what is kept", saved.split("%SCRIPT\n")[1].split("* Kept")[0].splitlines(), [line for _, line in WORDS if line])
     count.same("words: natively", native.bundle(saved), replies)
@@ -132,7 +128,7 @@ def own_faults(page, native, count):
     page.click("step")
     count.row("own faults: told", page.told().startswith("The page itself has a fault: "), page.told())
     count.same("own faults: the slider", [page.value("slider"), page.text("total")], ["1", "1"])
-    count.same("own faults: the log", commands(page), ["step 1"])
+    count.same("own faults: the log", page.commands(), ["step 1"])
     count.row("own faults: the console", len(page.errors()) > 0)
     page.go(page.address)
     page.lesson(0)
@@ -180,7 +176,7 @@ def edit_undone(page, native, count):
     count.same("undone: the moment", [page.value("moment"), page.text("total")], ["2", "2"])
     natively("undone", page, native, count)
     page.put("text", good.replace("ENTA 5", "ENTA 6"))
-    count.same("undone: that of the other text too", commands(page), ["step 1"])
+    count.same("undone: that of the other text too", page.commands(), ["step 1"])
 
 
 def focus(page, native, count):
@@ -226,21 +222,21 @@ def setting(page, native, count):
     page.one("who-value").send_keys("12345678901", Keys.ENTER)
     page.idle()
     count.row("set: refused beside the field", page.one("who-fault").is_displayed() and page.text("who-fault").startswith("Refused: C2 bad argument."), page.text("who-fault"))
-    count.same("set: refused, nothing is done", commands(page), ["run 1000000", "back 1", "back 1"])
+    count.same("set: refused, nothing is done", page.commands(), ["run 1000000", "back 1", "back 1"])
     for typed, command in (('"HELLO"', "set A 8(1:1),5(2:2),13(3:3),13(4:4),16(5:5)"), ("+ 00 00 00 00 12", "set A 12(5:5)"), ("- 00 01 00 00 00", "set A -0(0:0),1(2:2)"), ("-0", "set A -0")):
         if not page.one("who").is_displayed():
             page.tap(page.all("#register-rows td")[0])
         page.one("who-value").clear()
         page.one("who-value").send_keys(typed, Keys.ENTER)
         page.idle()
-        count.same(f"set: {typed}", commands(page)[-1], command)
+        count.same(f"set: {typed}", page.commands()[-1], command)
     page.click("back")
     page.one("command").send_keys("set A 7", Keys.ENTER)
     page.idle()
-    count.row("set: a command asks first", page.text("command-note").startswith("This drops 1 change ahead.") and commands(page)[-1] == "back 1", page.text("command-note"))
+    count.row("set: a command asks first", page.text("command-note").startswith("This drops 1 change ahead.") and page.commands()[-1] == "back 1", page.text("command-note"))
     page.one("command").send_keys(Keys.ENTER)
     page.idle()
-    count.same("set: asked again, it is done", commands(page)[-1], "set A 7")
+    count.same("set: asked again, it is done", page.commands()[-1], "set A 7")
     natively("set", page, native, count)
 
 

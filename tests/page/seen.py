@@ -1,6 +1,7 @@
 """What one sees without looking for it: what was printed, what a step did, the notes of a lesson, the line that is next in a small window."""
 import re
 
+from browser import EDITOR
 from selenium.webdriver.common.by import By
 from uses import TOP
 
@@ -55,6 +56,12 @@ def output(page, native, count):
     count.row("output: both papers", page.one("paper-18").is_displayed() and page.one("paper-19").is_displayed() and "13 rows printed." in page.told(), page.told())
 
 
+def spans(page, line):
+    """The words of a line of the source that have a colour, each with its kind."""
+    shown = "cm.scrollIntoView(arguments[0] - 1); const at = arguments[0] - 1 - cm.getViewport().from; const row = document.querySelectorAll('#listing .CodeMirror-line')[at]; "
+    return page.script(EDITOR + shown + "return [...row.querySelectorAll('span > span')].map(s => [s.textContent, s.className.replace('cm-', '')])", line)
+
+
 def lesson(page, native, count):
     """Notes beside the listing, in groups with numbers; the answer only when it is asked for; symbols; colours; all of a line is seen."""
     titles = page.lessons()
@@ -83,7 +90,7 @@ def lesson(page, native, count):
     page.script("document.querySelector('#symbols details').open = true")
     symbols = [[cell.text for cell in row.find_elements(By.CSS_SELECTOR, "th, td")][:3] for row in page.all("#symbol-rows tr")]
     count.same("lesson: symbols, in decimal too", symbols[:3], [["N", "3", "+ 00 00 00 00 03"], ["KEY", "999", "+ 00 00 00 15 39"], ["START", "3000", "+ 00 00 00 46 56"]])
-    count.same("lesson: colours", page.spans(8), [["START", "entity"], ["LDX", "support"], ["KEY", "variable"], ["+", "keyword-operator"], ["1", "constant"]])
+    count.same("lesson: colours", spans(page, 8), [["START", "entity"], ["LDX", "support"], ["KEY", "variable"], ["+", "keyword-operator"], ["1", "constant"]])
 
 
 def memory_shown(page, native, count):

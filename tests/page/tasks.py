@@ -2,10 +2,10 @@
 before its status, its output and its notes were beside the program."""
 import re
 
+from browser import EXAMPLES
 from selenium.webdriver.common.by import By
 from selenium.webdriver.common.keys import Keys
 from seen import IN_VIEW
-from uses import EXAMPLES
 
 BEFORE = {
     "500 primes printed": "3 clicks, 2 scrolls", "ten steps, five back": "15 clicks", "who wrote a cell": "2 clicks", "an own program with three mistakes": "3 rounds of bare faults",

@@ -1,5 +1,4 @@
 """Two runs side by side, worked out by hand: other cards, another program, and commands."""
-from repairs import commands
 from uses import natively
 
 # The first character of a card, A = 1 or B = 2, and one more to cell 200; the card is printed. Six
@@ -115,7 +114,7 @@ def closed(page, native, count):
     count.same("two: closed: the focus", page.script("return document.activeElement.id"), "compare-open")
     page.put("text", FIRST)
     page.click("run")
-    count.same("two: closed: nothing is compared", [page.one("compare").is_displayed(), commands(page), page.script(PAPERS)[1]], [False, ["run 1000000", "back all", "forth all"], []])
+    count.same("two: closed: nothing is compared", [page.one("compare").is_displayed(), page.commands(), page.script(PAPERS)[1]], [False, ["run 1000000", "back all", "forth all"], []])
     page.click("compare-open")
     differs("opened again", page, count)
 

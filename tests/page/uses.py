@@ -2,12 +2,12 @@
 import pathlib
 import re
 
+from browser import EXAMPLES
 from native import with_script
 from selenium.webdriver.common.by import By
 from selenium.webdriver.common.keys import Keys
 
 TOP = pathlib.Path(__file__).resolve().parents[2]
-EXAMPLES = sorted((TOP / "examples").glob("*.mixal"))
 FIRST = EXAMPLES[0].read_text()
 BARS = {"07_inverse": "* bars: X+1 X+COUNT number\n"}  # what is shown of an example whose script shows five cells or more
 

@@ -1,7 +1,6 @@
 """The page in WebKit, the engine of Safari, by Debian's WebKitWebDriver; its window is never narrower than some 450 pixels."""
 import glob
 import tempfile
-import time
 
 from browser import SECONDS, Page
 from selenium import webdriver
@@ -52,9 +51,7 @@ class WebKit(Page):
     def save(self):
         self.script("window.saved = null")
         self.click("save")
-        end = time.monotonic() + SECONDS
-        while self.script("return window.saved === null") and time.monotonic() < end:
-            time.sleep(0.02)
+        self.wait(lambda: self.script("return window.saved !== null"), SECONDS)
         return bytes(self.script("return window.saved"))
 
     def errors(self):
