@@ -1,10 +1,14 @@
-"""What the page does not take, and what it asks before: texts over the limits, scripts of others, and leaving a program."""
+"""What the page does not take, and what it asks before: texts over the limits, scripts of others, and leaving a program, in the middle of a run too."""
 import base64
 import re
 import time
 import zlib
 
 from selenium.webdriver.common.by import By
+from uses import FIRST, natively
+
+ENDLESS = "LOOP INCA 1\n STA 100\n JMP LOOP\n END LOOP\n"
+CHOOSE = "const l = document.getElementById('lessons'); l.value = String(arguments[0]); l.dispatchEvent(new Event('change', {bubbles: true}));"
 
 
 def link_of(page, bundle):
@@ -52,15 +56,42 @@ def asked(page, native, count):
     page.lesson(0)
     here = page.value("lessons")
     page.click("step")
-    page.script("const l = document.getElementById('lessons'); l.value = '1'; l.dispatchEvent(new Event('change', {bubbles: true}));")
+    page.script(CHOOSE, 1)
     count.row("asked: the box", page.one("leave").is_displayed())
     page.driver.find_element(By.CSS_SELECTOR, "#leave button[value=stay]").click()
     page.idle()
     count.same("asked: stay", [page.value("lessons"), page.commands()], [here, ["step 1"]])
-    page.script("const l = document.getElementById('lessons'); l.value = '1'; l.dispatchEvent(new Event('change', {bubbles: true}));")
+    page.script(CHOOSE, 1)
     page.leave()
     page.idle()
     count.same("asked: leave", [page.value("lessons"), page.commands()], ["1", []])
 
 
-GUARDS = (too_large, policy, asked)
+def chosen_meanwhile(page, native, count):
+    """Another lesson is chosen while a moment is asked for."""
+    page.lesson(0)
+    page.put("text", ENDLESS)
+    for _ in range(2):
+        page.click("run")
+    page.script("const s = document.getElementById('slider'); s.value = 1900000; s.dispatchEvent(new Event('input', {bubbles: true})); " + CHOOSE, 1)
+    page.leave()
+    page.idle()
+    count.same("chosen: the moment", [page.value("moment"), page.text("total")], ["0", "0"])
+    count.row("chosen: told", page.told().startswith("At the start."), page.told())
+    page.click("run")
+    natively("chosen", page, native, count)
+    page.lesson(0)
+    first = page.value("lessons")
+    page.put("text", ENDLESS)
+    page.one("run").click()
+    page.script(CHOOSE, first)
+    page.leave()
+    page.idle()
+    count.same("chosen: during a run", [page.value("text"), page.text("total"), page.log()], [FIRST.split("%SCRIPT")[0], "0", []])
+    page.put("text", ENDLESS)
+    page.one("run").click()
+    page.open_file(FIRST.encode())
+    count.same("chosen: a file during a run", (page.value("text"), page.replies()), (FIRST.split("%SCRIPT")[0], native.bundle(FIRST)))
+
+
+GUARDS = (too_large, policy, asked, chosen_meanwhile)

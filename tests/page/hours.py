@@ -9,7 +9,8 @@ import sys
 import time
 import traceback
 
-from browser import Page
+from browser import SLIDE, Page
+from guards import CHOOSE
 from native import Count, Native
 from selenium.common.exceptions import ElementClickInterceptedException, ElementNotInteractableException, StaleElementReferenceException
 from selenium.webdriver.common.keys import Keys
@@ -18,7 +19,6 @@ from walks import BUTTONS, COMMANDS, DECK, PROGRAM
 
 SIZES = ((1280, 720), (1920, 1080), (375, 667), (320, 568), (640, 360), (1280, 900))
 KEYS = (Keys.F7, Keys.F8, Keys.F9, Keys.F1, Keys.TAB, Keys.ARROW_DOWN, Keys.ARROW_UP)
-MIDDLE = "const l = document.getElementById('lessons'); l.value = String(arguments[0]); l.dispatchEvent(new Event('change', {bubbles: true}));"
 
 
 class User:
@@ -37,8 +37,8 @@ class User:
             self.page.script("document.getElementById(arguments[0]).click()", name)
         total = int(self.page.one("slider").get_attribute("max"))
         if total:
-            self.page.script("const s = document.getElementById('slider'); s.value = arguments[0]; s.dispatchEvent(new Event('input', {bubbles: true}));", self.chance.randint(0, total))
-        self.page.script(MIDDLE, self.chance.randrange(self.lessons))
+            self.page.script(SLIDE, self.chance.randint(0, total))
+        self.page.script(CHOOSE, self.chance.randrange(self.lessons))
         self.page.leave()
 
     def button(self):

@@ -1,14 +1,16 @@
-"""Nothing is lost: the address holds what is here, and a text is named by what it is."""
+"""Nothing is lost: the address holds what is here, a text is named by what it is and brings its session back, a file has what is still to be done."""
 import base64
 import time
 import zlib
 
+from browser import EXAMPLES
 from guards import link_of
 from native import with_script
 from selenium.webdriver.common.keys import Keys
-from uses import EXAMPLES, FIRST, kept
+from uses import FIRST, kept, natively
 
 OWN = "        ORIG 1000\nSTART   ENTA 5\n        STA  1500\n        HLT\n        END  START\n"
+NAMED = "const { click } = HTMLAnchorElement.prototype; HTMLAnchorElement.prototype.click = function () { window.named = this.download; click.call(this); }"
 NAME = "const menu = document.getElementById('lessons'); return menu.options[menu.selectedIndex].textContent"
 
 
@@ -73,7 +75,7 @@ def reload(page, native, count):
 def named(page, native, count):
     """A lesson that was edited says so, in the menu, the notes, on paper and in the file's name; a text of one's own has no lesson's name, notes or script,
     and undo brings the lesson back."""
-    page.script("const { click } = HTMLAnchorElement.prototype; HTMLAnchorElement.prototype.click = function () { window.named = this.download; click.call(this); }")
+    page.script(NAMED)
     page.lesson(0)
     title = page.script(NAME)
     page.put("text", page.value("text").replace("ENTA 5", "ENTA 6"))
@@ -93,4 +95,45 @@ def named(page, native, count):
     count.same("named: by a link", page.script(NAME), f"{title}, edited")
 
 
-LOST = (reload, named)
+def kept_apart(page, native, count):
+    """A saved file has what was done, and apart from it what is still to be done."""
+    bundle = EXAMPLES[8].read_text()
+    script = bundle.split("%SCRIPT\n")[1].splitlines()
+    page.lesson(8)
+    for _ in range(3):
+        page.click("script-next")
+    page.press_button(page.all("#listing .line button")[9])
+    state, log, left = page.state(), page.log(), page.value("script-lines")
+    page.script(NAMED)
+    saved = page.save()
+    count.same("kept: the name of the file", page.script("return window.named"), f"{EXAMPLES[8].stem}.mixal")
+    count.same("kept: what is left", kept(saved.decode()), script[len(log):])
+    count.same("kept: the breakpoint", kept(saved.decode(), "breakpoints at lines"), ["10"])
+    count.same("kept: natively, what was done", native.bundle(saved), native.bundle(with_script(bundle, "\n".join(script[:len(log)]) + "\n")))
+    page.lesson(0)
+    page.open_file(saved)
+    count.same("kept: opened, the moment", (page.state(), page.log()), (state, log))
+    count.same("kept: opened, what is left", page.value("script-lines"), left)
+    count.same("kept: opened, the breakpoint", page.all("#listing .line button")[9].get_attribute("aria-pressed"), "true")
+    count.same("kept: opened, the lesson", page.chosen(), EXAMPLES[8].stem)
+    page.click("script-all")
+    count.same("kept: opened, and done to the end", page.replies(), native.bundle(bundle))
+
+
+def edit_undone(page, native, count):
+    """The last sessions of other texts come back with their texts, also over work on the text between."""
+    page.lesson(0)
+    page.click("step")
+    page.click("step")
+    good, log = page.value("text"), page.log()
+    page.put("text", good.replace("ENTA 5", "ENTA 6"))
+    page.click("step")
+    page.put("text", good)
+    count.same("undone: what was done is back", page.log(), log)
+    count.same("undone: the moment", [page.value("moment"), page.text("total")], ["2", "2"])
+    natively("undone", page, native, count)
+    page.put("text", good.replace("ENTA 5", "ENTA 6"))
+    count.same("undone: that of the other text too", page.commands(), ["step 1"])
+
+
+LOST = (reload, named, kept_apart, edit_undone)

@@ -1,9 +1,7 @@
 """What once went wrong in use, one thing after another."""
-from native import with_script
 from selenium.webdriver.common.keys import Keys
-from uses import EXAMPLES, FIRST, kept, natively
+from uses import natively
 
-ENDLESS = "LOOP INCA 1\n STA 100\n JMP LOOP\n END LOOP\n"
 ACTIVE = "const e = document.activeElement; return e.id || e.getAttribute('aria-label') || e.tagName"
 MARKED = "return [...document.querySelectorAll('.at .line button')].map(b => Number(b.textContent))"
 
@@ -96,31 +94,6 @@ def left(page, native, count):
     count.row("left: and how it came to be", page.told().endswith("The last: 1 ENTA 1: rA from 0 to 1 (1 u)."), page.told())
 
 
-def kept_apart(page, native, count):
-    """A saved file has what was done, and apart from it what is still to be done."""
-    bundle = EXAMPLES[8].read_text()
-    script = bundle.split("%SCRIPT\n")[1].splitlines()
-    page.lesson(8)
-    for _ in range(3):
-        page.click("script-next")
-    page.press_button(page.all("#listing .line button")[9])
-    state, log, left = page.state(), page.log(), page.value("script-lines")
-    page.script("const { click } = HTMLAnchorElement.prototype; HTMLAnchorElement.prototype.click = function () { window.named = this.download; click.call(this); }")
-    saved = page.save()
-    count.same("kept: the name of the file", page.script("return window.named"), f"{EXAMPLES[8].stem}.mixal")
-    count.same("kept: what is left", kept(saved.decode()), script[len(log):])
-    count.same("kept: the breakpoint", kept(saved.decode(), "breakpoints at lines"), ["10"])
-    count.same("kept: natively, what was done", native.bundle(saved), native.bundle(with_script(bundle, "\n".join(script[:len(log)]) + "\n")))
-    page.lesson(0)
-    page.open_file(saved)
-    count.same("kept: opened, the moment", (page.state(), page.log()), (state, log))
-    count.same("kept: opened, what is left", page.value("script-lines"), left)
-    count.same("kept: opened, the breakpoint", page.all("#listing .line button")[9].get_attribute("aria-pressed"), "true")
-    count.same("kept: opened, the lesson", page.chosen(), EXAMPLES[8].stem)
-    page.click("script-all")
-    count.same("kept: opened, and done to the end", page.replies(), native.bundle(bundle))
-
-
 def own_faults(page, native, count):
     """What the page itself does wrong is told, and all else is as it was."""
     page.lesson(0)
@@ -134,49 +107,6 @@ def own_faults(page, native, count):
     page.lesson(0)
     page.click("step")
     count.row("own faults: gone with a page that is whole", page.told().startswith("Did 4 ENTA 5"), page.told())
-
-
-def chosen_meanwhile(page, native, count):
-    """Another lesson is chosen while a moment is asked for."""
-    page.lesson(0)
-    page.put("text", ENDLESS)
-    for _ in range(2):
-        page.click("run")
-    page.script("""const s = document.getElementById('slider'); s.value = 1900000; s.dispatchEvent(new Event('input', {bubbles: true}));
-        const l = document.getElementById('lessons'); l.value = '1'; l.dispatchEvent(new Event('change', {bubbles: true}));""")
-    page.leave()
-    page.idle()
-    count.same("chosen: the moment", [page.value("moment"), page.text("total")], ["0", "0"])
-    count.row("chosen: told", page.told().startswith("At the start."), page.told())
-    page.click("run")
-    natively("chosen", page, native, count)
-    page.lesson(0)
-    page.put("text", ENDLESS)
-    page.one("run").click()
-    page.script("const l = document.getElementById('lessons'); l.value = [...l.options].find(o => o.dataset.name === arguments[0]).value; l.dispatchEvent(new Event('change', {bubbles: true}));", EXAMPLES[0].stem)
-    page.leave()
-    page.idle()
-    count.same("chosen: during a run", [page.value("text"), page.text("total"), page.log()], [FIRST.split("%SCRIPT")[0], "0", []])
-    page.put("text", ENDLESS)
-    page.one("run").click()
-    page.open_file(FIRST.encode())
-    count.same("chosen: a file during a run", (page.value("text"), page.replies()), (FIRST.split("%SCRIPT")[0], native.bundle(FIRST)))
-
-
-def edit_undone(page, native, count):
-    """The last sessions of other texts come back with their texts, also over work on the text between."""
-    page.lesson(0)
-    page.click("step")
-    page.click("step")
-    good, log = page.value("text"), page.log()
-    page.put("text", good.replace("ENTA 5", "ENTA 6"))
-    page.click("step")
-    page.put("text", good)
-    count.same("undone: what was done is back", page.log(), log)
-    count.same("undone: the moment", [page.value("moment"), page.text("total")], ["2", "2"])
-    natively("undone", page, native, count)
-    page.put("text", good.replace("ENTA 5", "ENTA 6"))
-    count.same("undone: that of the other text too", page.commands(), ["step 1"])
 
 
 def focus(page, native, count):
@@ -290,4 +220,4 @@ def sizes(page, native, count):
         count.same(f"sizes: {width} x {height}", page.script("const noticed = window.noticed; window.noticed = []; return noticed"), [])
 
 
-REPAIRS = (halts, calls, words, left, kept_apart, own_faults, chosen_meanwhile, edit_undone, focus, setting, refused_text, ranges, sizes)
+REPAIRS = (halts, calls, words, left, own_faults, focus, setting, refused_text, ranges, sizes)
