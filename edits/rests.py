@@ -156,10 +156,11 @@ def offered(crate):
 
 def forget():
     """Sources may have changed since they were read."""
-    offered.cache_clear()
-    below.cache_clear()
+    for read in (offered, below, meant):
+        read.cache_clear()
 
 
+@functools.cache
 def meant(of, module, name):
     """The pieces that a name may mean: of a source, if no path leads to it, what its own crate has, or what one below offers."""
     if of[:1] not in ("?", "!", "="):
