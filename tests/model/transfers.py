@@ -66,11 +66,11 @@ def conflict(worlds, changes, at):
     name, f = unit_of(world, change)
     begins = world.clock if name is None else max(world.clock, world.units[f].until)
     fetched, read, wrote = used(world, change)
+    latest = {unit_of(worlds[i], changes[i])[1]: i for i in range(at)}
     for unit, kind in enumerate(KINDS):
-        earlier = [i for i in range(at) if unit_of(worlds[i], changes[i])[1] == unit]
-        if not earlier:
+        last = latest.get(unit)
+        if last is None:
             continue
-        last = earlier[-1]
         name, _ = unit_of(worlds[last], changes[last])
         until = worlds[last + 1].units[unit].until
         if name == "IOC":
