@@ -106,14 +106,14 @@ CHANGES = [flip, byte, lines_changed, cut, spliced, word, number]
 
 def model_of(text):
     """What the model gives, or None where it takes too long."""
-    signal.signal(signal.SIGALRM, ring)
-    signal.alarm(MODEL_SECONDS)
+    signal.signal(signal.SIGVTALRM, ring)
+    signal.setitimer(signal.ITIMER_VIRTUAL, MODEL_SECONDS)
     try:
         return model.run(text)
     except (Endless, MemoryError, RecursionError):
         return None
     finally:
-        signal.alarm(0)
+        signal.setitimer(signal.ITIMER_VIRTUAL, 0)
 
 
 def some(program, seed, numbers):
