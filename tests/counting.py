@@ -13,7 +13,7 @@ class Count:
             print(f"FAILED {name}: {more}", flush=True)
 
     def same(self, name, found, wanted):
-        self.row(name, found == wanted, differing(found, wanted))
+        self.row(name, found == wanted, found == wanted or differing(found, wanted))
 
     def ended(self):
         """The status, after the line that counts."""

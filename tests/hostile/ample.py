@@ -2,7 +2,7 @@
 
 What is due at a large clock is the model's; the rest is worked out here, by the rules alone."""
 
-from running import Count, Runner, bundle, folder, lines, shown
+from running import Count, Runner, bundle, folder, lines
 
 import bundle as model
 
@@ -70,6 +70,5 @@ def rows(program, workers, quick=False):
     with folder() as place:
         runner = Runner(program, place)
         for name, text, wanted in every:
-            found = runner.run(text)
-            count.row(name, found == wanted, "found %s, and not %s" % (shown(found), shown(wanted)))
+            count.same(name, runner.run(text), wanted)
     return count

@@ -3,7 +3,7 @@
 import os
 import subprocess
 
-from running import SECONDS, Count, Runner, bundle, folder, lines, shown, takes_words
+from running import SECONDS, Count, Runner, bundle, folder, lines, takes_words
 
 SOURCE, SCRIPT, DECK, BUNDLE = 1048576, 1048576, 33554432, 41943040
 END = b" END 0\n"
@@ -212,6 +212,5 @@ def rows(program, workers, quick=False):
         runner = Runner(program, place)
         for part in (sizes, counts, refused_decks, full_units, written_units):
             for name, text, wanted in part():
-                found = runner.run(text)
-                count.row(name, found == wanted, "found %s, and not %s" % (shown(found), shown(wanted)))
+                count.same(name, runner.run(text), wanted)
     return count
