@@ -9,10 +9,10 @@ use Rattle.dap_message.specs.Message.{next_seq, waits, event_message, output_mes
 use Rattle.dap_message.specs.declared.outbox.Outbox.{Outbox}
 use Rattle.dap_message.specs.declared.request.Request.{Request}
 use Rattle.mix_dap.specs.Events.{Event, AddsAnswer, AddsEvents, Sends, all_areas, event_messages, last_seq, out_of_date}
-use Rattle.mix_dap.specs.Fault.{fault_number, fault_text, fault_place}
+use Rattle.dap_asked.specs.Fault.{fault_number, fault_text, fault_place}
 use Rattle.mix_dap.specs.Output.{output, outputs, row_output}
 use Rattle.mix_dap.specs.Replies.{answer_message}
-use Rattle.mix_dap.specs.declared.fault.Fault.{Fault}
+use Rattle.dap_asked.specs.declared.fault.Fault.{Fault}
 use Rattle.mix_dap.specs.declared.printed.Printed.{Printed}
 
 messages-append : (seq : ℕ) (xs ys : List Event) → event_messages seq (xs ++ ys) ≡ event_messages seq xs ++ event_messages (last_seq seq xs) ys

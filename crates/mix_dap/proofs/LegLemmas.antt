@@ -12,8 +12,8 @@ use Rattle.mix_session.specs.declared.command.stops.Way as session
 use Rattle.mix_session.specs.declared.command.stops.Way.TheVariants as ways
 use Rattle.mix_session.specs.declared.reply.End.{End}
 use Rattle.mix_session.specs.declared.reply.End.TheVariants as ends
-use Rattle.mix_dap.specs.Points.{PointsState}
-use Rattle.mix_dap.specs.Runs.{Leg, Passes, awaited_by, effect_of_leg, goes_past, made_in, next_leg, passes_by, points_counted, stops_of, timeline_after}
+use Rattle.dap_points.specs.Points.{PointsState, stops_of}
+use Rattle.mix_dap.specs.Runs.{Leg, Passes, awaited_by, effect_of_leg, goes_past, made_in, next_leg, passes_by, points_counted, timeline_after}
 use Rattle.mix_dap.specs.Stopped.{end_of}
 use Rattle.mix_dap.specs.declared.adapter.Way.{Way}
 use Rattle.mix_dap.specs.declared.adapter.Way.TheVariants as way

@@ -14,32 +14,32 @@ use Rattle.dap_message.specs.Message.{Adds, refusal_message, reply_message}
 use Rattle.dap_message.specs.Request.{text_of}
 use Rattle.dap_message.specs.declared.outbox.Outbox.{Outbox}
 use Rattle.dap_message.specs.declared.request.Request.{Request}
-use Rattle.mix_dap.specs.Deed.{deed_of, effect_of_deed, is_line, line_deed}
+use Rattle.dap_asked.specs.Deed.{deed_of, effect_of_deed, is_line, line_deed}
 use Rattle.mix_dap.specs.Console.{line_meant, said_of}
 use Rattle.mix_dap.specs.Ended.{end_told}
 use Rattle.mix_dap.specs.Events.{AddsAnswer, AddsEvents, Event, invalidated, stopped}
-use Rattle.mix_dap.specs.Fault.{fault_number, fault_text, fault_place}
+use Rattle.dap_asked.specs.Fault.{fault_number, fault_text, fault_place}
 use Rattle.mix_dap.specs.Leaves.{refusal_in}
 use Rattle.mix_dap.specs.Output.{all_told, outputs}
-use Rattle.mix_dap.specs.Points.{PointsState}
+use Rattle.dap_points.specs.Points.{PointsState}
 use Rattle.mix_dap.specs.Reaction.{Beside, Reaction, acted, asked_done, beside, console, line_done, reaction, reaction_to, refuses, replied_unless, said_or_done, still, unless, written}
 use Rattle.mix_dap.specs.Reacts.{Answered, GoesOn, IsSame, ReactsAs, Runs, flow_after, flow_of, is_done}
 use Rattle.mix_dap.specs.Replies.{answer_message}
 use Rattle.mix_dap.specs.Runs.{RunBroken, RunDone, why_of_run}
 use Rattle.mix_dap.specs.Stopped.{fault_at, out_of_memory}
-use Rattle.mix_dap.specs.Written.{Written, bytes_written, count_written, write_asked}
+use Rattle.dap_points.specs.Written.{Written, bytes_written, count_written, write_asked}
 use Rattle.mix_dap.specs.declared.adapter.Adapter.{Adapter}
 use Rattle.mix_dap.specs.declared.adapter.Flow.{Flow}
 use Rattle.mix_dap.specs.declared.adapter.Flow.TheVariants as flow
 use Rattle.mix_dap.specs.declared.adapter.Then.{Then}
 use Rattle.mix_dap.specs.declared.adapter.Then.TheVariants as then
 use Rattle.mix_dap.specs.declared.adapter.Way.{Way}
-use Rattle.mix_dap.specs.declared.deed.Deed.{Deed}
-use Rattle.mix_dap.specs.declared.fault.Fault.{Fault}
-use Rattle.mix_dap.specs.declared.kind.Act.{Act}
-use Rattle.mix_dap.specs.declared.kind.Act.TheVariants as act
-use Rattle.mix_dap.specs.declared.kind.Kind.{Kind}
-use Rattle.mix_dap.specs.declared.kind.Kind.TheVariants as kind
+use Rattle.dap_asked.specs.declared.deed.Deed.{Deed}
+use Rattle.dap_asked.specs.declared.fault.Fault.{Fault}
+use Rattle.dap_asked.specs.declared.kind.Act.{Act}
+use Rattle.dap_asked.specs.declared.kind.Act.TheVariants as act
+use Rattle.dap_asked.specs.declared.kind.Kind.{Kind}
+use Rattle.dap_asked.specs.declared.kind.Kind.TheVariants as kind
 use Rattle.mix_dap.specs.declared.launch.Opening.{Opening}
 use Rattle.mix_dap.specs.declared.launch.Opening.TheVariants as opening
 use Rattle.mix_dap.proofs.EventLemmas.{answer-refused, answer-then, answer-with}

@@ -1,7 +1,7 @@
 -- How a launch is answered.
 use Rattle.std.proofs.Common.{◌≡◌, ℕ, List, [], refl, ap, ◌∙◌}
 use Rattle.dap_message.specs.Message.{waits}
-use Rattle.mix_dap.specs.Kind.{kind_before}
+use Rattle.dap_asked.specs.Kind.{kind_before}
 use Rattle.dap_message.specs.declared.outbox.Outbox.{Outbox}
 use Rattle.dap_message.specs.declared.request.Request.{Request}
 use Rattle.mix_dap.specs.Answer.{launch_shown, launch_told}

@@ -7,30 +7,30 @@ use Rattle.mix_machine.specs.declared.fault.MixFault.{MixFault}
 use Rattle.mix_session.specs.Session.{SessionState}
 use Rattle.mix_session.specs.Timeline.{world_of}
 use Rattle.dap_message.specs.declared.request.Request.{Request}
-use Rattle.mix_dap.specs.Change.{change_asked}
-use Rattle.mix_dap.specs.Completions.{completions_asked}
-use Rattle.mix_dap.specs.Counts.{counts_shown}
-use Rattle.mix_dap.specs.State.{state_asked}
-use Rattle.mix_dap.specs.Locations.{locations_asked}
+use Rattle.dap_views.specs.Change.{change_asked}
+use Rattle.dap_points.specs.Completions.{completions_asked}
+use Rattle.dap_views.specs.Counts.{counts_shown}
+use Rattle.dap_views.specs.State.{state_asked}
+use Rattle.dap_points.specs.Locations.{locations_asked}
 use Rattle.mix_dap.specs.Events.{Event, initialized}
 use Rattle.mix_dap.specs.Launched.{launched_of, source_of}
 use Rattle.mix_dap.specs.Output.{output}
-use Rattle.mix_dap.specs.Look.{short_name, threads, stack_trace, scopes, exception_of, put_fault}
-use Rattle.mix_dap.specs.Memory.{memory_asked}
-use Rattle.mix_dap.specs.Disassembly.{disassembly_asked}
-use Rattle.mix_dap.specs.Targets.{targets_asked}
-use Rattle.mix_dap.specs.Next.{next_asked}
-use Rattle.mix_dap.specs.Path.{path_asked}
-use Rattle.mix_dap.specs.Points.{no_points}
-use Rattle.mix_dap.specs.Program.{program_shown}
-use Rattle.mix_dap.specs.Units.{units_asked}
-use Rattle.mix_dap.specs.Variables.{variables_of}
-use Rattle.mix_dap.specs.Watch.{watch_asked}
-use Rattle.mix_dap.specs.Writes.{writes_asked}
+use Rattle.dap_asked.specs.Look.{short_name, threads, stack_trace, scopes, exception_of, put_fault}
+use Rattle.dap_asked.specs.Memory.{memory_asked}
+use Rattle.dap_points.specs.Disassembly.{disassembly_asked}
+use Rattle.dap_points.specs.Targets.{targets_asked}
+use Rattle.dap_views.specs.Next.{next_asked}
+use Rattle.dap_views.specs.Path.{path_asked}
+use Rattle.dap_points.specs.Points.{no_points}
+use Rattle.dap_views.specs.Program.{program_shown}
+use Rattle.dap_views.specs.Units.{units_asked}
+use Rattle.dap_views.specs.Variables.{variables_of}
+use Rattle.dap_asked.specs.Watch.{watch_asked}
+use Rattle.dap_views.specs.Writes.{writes_asked}
 use Rattle.mix_dap.specs.declared.adapter.Adapter.{Adapter}
-use Rattle.mix_dap.specs.declared.fault.Fault.{Fault}
-use Rattle.mix_dap.specs.declared.kind.Look.{Look}
-use Rattle.mix_dap.specs.declared.kind.Look.TheVariants as look
+use Rattle.dap_asked.specs.declared.fault.Fault.{Fault}
+use Rattle.dap_asked.specs.declared.kind.Look.{Look}
+use Rattle.dap_asked.specs.declared.kind.Look.TheVariants as look
 use Rattle.mix_dap.specs.declared.launch.Texts.{Texts}
 
 -- what is looked at

@@ -4,15 +4,15 @@ use Rattle.serde_json.specs.Data.{Data, null}
 use Rattle.dap_message.specs.declared.outbox.Outbox.{Outbox}
 use Rattle.dap_message.specs.declared.request.Request.{Request}
 use Rattle.mix_dap.specs.Capabilities.{capabilities, client_of}
-use Rattle.mix_dap.specs.Given.{given_told}
+use Rattle.dap_views.specs.Given.{given_told}
 use Rattle.mix_dap.specs.Events.{AddsAnswer, Event, terminated}
 use Rattle.mix_dap.specs.Replies.{answer_message}
 use Rattle.mix_dap.specs.Texts.{Known, AreTexts, RefusesTexts}
-use Rattle.mix_dap.specs.declared.fault.Fault.{Fault}
-use Rattle.mix_dap.specs.declared.fault.Fault.TheVariants as fault
+use Rattle.dap_asked.specs.declared.fault.Fault.{Fault}
+use Rattle.dap_asked.specs.declared.fault.Fault.TheVariants as fault
 use Rattle.mix_dap.specs.declared.capabilities.Client.{Client}
-use Rattle.mix_dap.specs.declared.kind.Kind.{Kind}
-use Rattle.mix_dap.specs.declared.kind.Kind.TheVariants as kind
+use Rattle.dap_asked.specs.declared.kind.Kind.{Kind}
+use Rattle.dap_asked.specs.declared.kind.Kind.TheVariants as kind
 use Rattle.mix_dap.specs.declared.waiting.Asked.{Asked}
 use Rattle.mix_dap.specs.declared.waiting.Asked.TheVariants as asked
 

@@ -1,5 +1,5 @@
 -- What a line of the console says: a line of a script, or the words that a person types at a prompt.
-use Rattle.std.specs.Prelude.{ℕ, List, [], ◌||◌, Bool, true, false, not, is_ok, Option, None, if◌then◌else◌}
+use Rattle.std.specs.Prelude.{ℕ, List, [], ◌||◌, Bool, true, false, not, is_ok, codes, Option, None, Some, Result, Ok, Err, if◌then◌else◌}
 use Rattle.mix_lines.specs.Lines.{words}
 use Rattle.mix_person.specs.Aside.{aside_of}
 use Rattle.mix_person.specs.Person.{kind_of, person_line}
@@ -7,6 +7,14 @@ use Rattle.mix_person.specs.declared.person.Line.{Line}
 use Rattle.mix_person.specs.declared.person.Line.TheVariants as line_kind
 use Rattle.mix_session.specs.Names.{names_of}
 use Rattle.mix_session.specs.Session.{SessionState, request_in}
+use Rattle.dap_message.specs.Request.{text_of}
+use Rattle.dap_message.specs.declared.request.Request.{Request}
+use Rattle.dap_asked.specs.Deed.{deed_of, is_line, line_deed}
+use Rattle.dap_asked.specs.declared.deed.Deed.{Deed}
+use Rattle.dap_asked.specs.declared.deed.Deed.TheVariants as deed
+use Rattle.dap_asked.specs.declared.fault.Fault.{Fault}
+use Rattle.dap_asked.specs.declared.fault.Fault.TheVariants as fault
+use Rattle.dap_asked.specs.declared.kind.Act.{Act}
 
 -- whether a person's line stands for a command; the others are about what a prompt keeps beside the changes, and a console keeps nothing there
 abbrev pub is_command : Line → Bool
@@ -24,3 +32,19 @@ line_meant s typed = if is_script s typed then typed else person_line (names_of 
 -- what is only said of it, if that is all, as at a prompt
 abbrev pub said_of : SessionState → List ℕ → Option (List ℕ)
 said_of s typed = if is_script s typed then None else aside_of s (line_meant s typed)
+
+-- a line of the console: nothing is done where something is only said
+abbrev pub deed_unless : Option (List ℕ) → Result Deed Fault → Result Deed Fault
+deed_unless None asked = asked
+deed_unless (Some text) asked = Ok deed.Nothing
+
+abbrev pub console_deed : SessionState → List ℕ → Result Deed Fault
+console_deed s typed = deed_unless (said_of s typed) (line_deed s (line_meant s typed))
+
+abbrev pub console_asked : SessionState → Option (List ℕ) → Result Deed Fault
+console_asked s None = Err fault.BadArgument
+console_asked s (Some typed) = console_deed s typed
+
+-- what a request of the client asks that moves or changes the machine
+abbrev pub deed_asked : Act → Request → SessionState → Result Deed Fault
+deed_asked act r s = if is_line act r then console_asked s (text_of r (codes "expression")) else deed_of act r s

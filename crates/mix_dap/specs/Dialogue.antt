@@ -2,7 +2,7 @@
 use Rattle.std.specs.Prelude.{◌≡◌, ◌⊎◌, ◌≤◌, ◌-◌, ◌^◌, ◌++◌, ℕ, List, [], ◌∷◌, codes, Option, Result, Ok, Err, IsErr}
 use Rattle.std.specs.Io.KnownBytes.{Appends, prepend_known}
 use Rattle.serde_json.specs.Data.{Data}
-use Rattle.mix_dap.specs.Kind.{kind_before}
+use Rattle.dap_asked.specs.Kind.{kind_before}
 use Rattle.dap_message.specs.declared.request.Request.{Request}
 use Rattle.dap_message.specs.Message.{next_seq}
 use Rattle.dap_stream.specs.Asked.{Frame, IsRequest}

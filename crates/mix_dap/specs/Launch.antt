@@ -9,8 +9,8 @@ use Rattle.mix_machine.specs.units.Units.{UnitsState}
 use Rattle.mix_machine.specs.units.deck.Deck.{deck_of, cards_of, typewriter_of}
 use Rattle.mix_machine.specs.declared.units.deck_fault.DeckFault.{DeckFault}
 use Rattle.mix_session.specs.Session.{SessionState, opened}
-use Rattle.mix_dap.specs.declared.fault.Fault.{Fault}
-use Rattle.mix_dap.specs.declared.fault.Fault.TheVariants as fault
+use Rattle.dap_asked.specs.declared.fault.Fault.{Fault}
+use Rattle.dap_asked.specs.declared.fault.Fault.TheVariants as fault
 
 abbrev pub or_source : Result ProgramValue AsmFault → Result ProgramValue Fault
 or_source (Ok program) = Ok program

@@ -4,7 +4,7 @@ use Rattle.std.specs.Option.{option_map}
 use Rattle.mix_files.specs.Bundle.{parts_of}
 use Rattle.mix_session.specs.Session.{SessionState}
 use Rattle.mix_dap.specs.Launch.{launched}
-use Rattle.mix_dap.specs.declared.fault.Fault.{Fault}
+use Rattle.dap_asked.specs.declared.fault.Fault.{Fault}
 use Rattle.mix_dap.specs.declared.launch.Texts.{Texts}
 
 abbrev pub source_of : Texts → List ℕ

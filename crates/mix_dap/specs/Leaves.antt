@@ -8,10 +8,10 @@ use Rattle.mix_session.specs.Command.{Effect, after, Begun}
 use Rattle.mix_session.specs.Timeline.{Timeline}
 use Rattle.mix_session.specs.declared.answer.Answer.{Answer}
 use Rattle.mix_session.specs.declared.fault.Refusal.{Refusal}
-use Rattle.mix_dap.specs.Deed.{effect_of_deed}
-use Rattle.mix_dap.specs.declared.deed.Deed.{Deed}
-use Rattle.mix_dap.specs.declared.fault.Fault.{Fault}
-use Rattle.mix_dap.specs.declared.fault.Fault.TheVariants as fault
+use Rattle.dap_asked.specs.Deed.{effect_of_deed}
+use Rattle.dap_asked.specs.declared.deed.Deed.{Deed}
+use Rattle.dap_asked.specs.declared.fault.Fault.{Fault}
+use Rattle.dap_asked.specs.declared.fault.Fault.TheVariants as fault
 
 -- what refuses an effect, if the session does
 abbrev pub refusal_in : Effect → Option Fault

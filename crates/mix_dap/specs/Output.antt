@@ -4,7 +4,7 @@ use Rattle.dap_message.specs.Message.{output_body}
 use Rattle.mix_machine.specs.World.{WorldState, unit_at}
 use Rattle.mix_machine.specs.units.Row.{RowState}
 use Rattle.mix_dap.specs.Events.{Event}
-use Rattle.mix_dap.specs.Variables.{row_text}
+use Rattle.dap_views.specs.Variables.{row_text}
 use Rattle.mix_dap.specs.declared.printed.Printed.{Printed}
 
 -- a text, of a category

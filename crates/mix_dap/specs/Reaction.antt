@@ -16,30 +16,30 @@ use Rattle.dap_message.specs.Request.{text_of as text_in}
 use Rattle.dap_message.specs.declared.request.Request.{Request}
 use Rattle.mix_dap.specs.Answer.{shown_of, continued, value_body, result_body, worth_body, line_body}
 use Rattle.mix_dap.specs.Capabilities.{capabilities}
-use Rattle.mix_dap.specs.Given.{given_told}
+use Rattle.dap_views.specs.Given.{given_told}
 use Rattle.mix_dap.specs.Console.{line_meant, said_of}
-use Rattle.mix_dap.specs.Deed.{deed_of, effect_of_deed, is_line, line_deed}
+use Rattle.dap_asked.specs.Deed.{deed_of, effect_of_deed, is_line, line_deed}
 use Rattle.mix_dap.specs.Events.{Event, beginning, invalidated, stopped, terminated}
 use Rattle.mix_dap.specs.Leaves.{refusal_in}
 use Rattle.mix_dap.specs.Output.{all_told, outputs}
-use Rattle.mix_dap.specs.Points.{PointsState, none_set, points_after, points_told}
+use Rattle.dap_points.specs.Points.{PointsState, none_set, points_after, points_told}
 use Rattle.mix_dap.specs.Runs.{word_at}
 use Rattle.mix_dap.specs.Stopped.{end_of, fault_at, fault_in, only, why_of}
-use Rattle.mix_dap.specs.Value.{evaluated, number_asked, value_asked, worth_asked}
-use Rattle.mix_dap.specs.Written.{bytes_written, with_cells, write_asked}
+use Rattle.dap_asked.specs.Value.{evaluated, number_asked, value_asked, worth_asked}
+use Rattle.dap_points.specs.Written.{bytes_written, with_cells, write_asked}
 use Rattle.mix_dap.specs.declared.adapter.Adapter.{Adapter}
 use Rattle.mix_dap.specs.declared.adapter.Then.{Then}
 use Rattle.mix_dap.specs.declared.adapter.Then.TheVariants as then
 use Rattle.mix_dap.specs.declared.adapter.Way.TheVariants as way
 use Rattle.mix_dap.specs.declared.capabilities.Client.{Client}
-use Rattle.mix_dap.specs.declared.deed.Deed.{Deed}
-use Rattle.mix_dap.specs.declared.fault.Fault.{Fault}
-use Rattle.mix_dap.specs.declared.fault.Fault.TheVariants as fault
-use Rattle.mix_dap.specs.declared.kind.Act.{Act}
-use Rattle.mix_dap.specs.declared.kind.Act.TheVariants as act
-use Rattle.mix_dap.specs.declared.kind.Kind.{Kind}
-use Rattle.mix_dap.specs.declared.kind.Kind.TheVariants as kind
-use Rattle.mix_dap.specs.declared.kind.Target.{Target}
+use Rattle.dap_asked.specs.declared.deed.Deed.{Deed}
+use Rattle.dap_asked.specs.declared.fault.Fault.{Fault}
+use Rattle.dap_asked.specs.declared.fault.Fault.TheVariants as fault
+use Rattle.dap_asked.specs.declared.kind.Act.{Act}
+use Rattle.dap_asked.specs.declared.kind.Act.TheVariants as act
+use Rattle.dap_asked.specs.declared.kind.Kind.{Kind}
+use Rattle.dap_asked.specs.declared.kind.Kind.TheVariants as kind
+use Rattle.dap_asked.specs.declared.kind.Target.{Target}
 use Rattle.mix_dap.specs.declared.launch.Opening.{Opening}
 use Rattle.mix_dap.specs.declared.launch.Opening.TheVariants as opening
 use Rattle.mix_dap.specs.declared.printed.Printed.{Printed}

@@ -10,26 +10,26 @@ use Rattle.mix_session.specs.declared.reply.End.{End}
 use Rattle.mix_session.specs.declared.request.Request.TheVariants as ask
 use Rattle.dap_message.specs.declared.outbox.Outbox.{Outbox}
 use Rattle.dap_message.specs.declared.request.Request.{Request}
-use Rattle.mix_dap.specs.Deed.{deed_asked}
+use Rattle.mix_dap.specs.Console.{deed_asked}
 use Rattle.mix_dap.specs.Events.{AddsAnswer, AddsEvents}
-use Rattle.mix_dap.specs.Kind.{kind_asked}
+use Rattle.dap_asked.specs.Kind.{kind_asked}
 use Rattle.mix_dap.specs.Leaves.{Leaves}
 use Rattle.mix_dap.specs.Ended.{end_told}
 use Rattle.mix_dap.specs.Output.{all_told, outputs}
-use Rattle.mix_dap.specs.Points.{PointsState}
+use Rattle.dap_points.specs.Points.{PointsState}
 use Rattle.mix_dap.specs.Reaction.{Reaction, reaction, reaction_to}
 use Rattle.mix_dap.specs.Replies.{answer_message}
 use Rattle.mix_dap.specs.Runs.{Ran, fault_ran, why_ran}
-use Rattle.mix_dap.specs.Written.{WrittenSome, write_asked}
+use Rattle.dap_points.specs.Written.{WrittenSome, write_asked}
 use Rattle.mix_dap.specs.declared.adapter.Adapter.{Adapter}
 use Rattle.mix_dap.specs.declared.adapter.Flow.{Flow}
 use Rattle.mix_dap.specs.declared.adapter.Flow.TheVariants as flow
 use Rattle.mix_dap.specs.declared.adapter.Then.{Then}
 use Rattle.mix_dap.specs.declared.adapter.Then.TheVariants as then
 use Rattle.mix_dap.specs.declared.adapter.Way.{Way}
-use Rattle.mix_dap.specs.declared.fault.Fault.{Fault}
-use Rattle.mix_dap.specs.declared.kind.Kind.{Kind}
-use Rattle.mix_dap.specs.declared.kind.Kind.TheVariants as kind
+use Rattle.dap_asked.specs.declared.fault.Fault.{Fault}
+use Rattle.dap_asked.specs.declared.kind.Kind.{Kind}
+use Rattle.dap_asked.specs.declared.kind.Kind.TheVariants as kind
 
 -- whether it is done
 abbrev pub is_done : Result Data Fault → Bool

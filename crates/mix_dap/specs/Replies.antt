@@ -3,8 +3,8 @@ use Rattle.std.specs.Prelude.{ℕ, Result, Ok, Err}
 use Rattle.serde_json.specs.Data.{Data}
 use Rattle.dap_message.specs.Message.{reply_message, refusal_message}
 use Rattle.dap_message.specs.declared.request.Request.{Request}
-use Rattle.mix_dap.specs.Fault.{fault_number, fault_text, fault_place}
-use Rattle.mix_dap.specs.declared.fault.Fault.{Fault}
+use Rattle.dap_asked.specs.Fault.{fault_number, fault_text, fault_place}
+use Rattle.dap_asked.specs.declared.fault.Fault.{Fault}
 
 -- the message that answers a request: with this as its body, or with why it is refused
 abbrev pub answer_message : Request → Result Data Fault → ℕ → Data

@@ -6,22 +6,16 @@ use Rattle.mix_machine.specs.declared.fault.MixFault.{MixFault}
 use Rattle.mix_machine.specs.declared.transfers.Conflict.{Conflict}
 use Rattle.mix_session.specs.Client.{conflict_after}
 use Rattle.mix_session.specs.Command.{Effect, after, effect_of_run, Begun}
-use Rattle.mix_session.specs.Stops.{StopsState}
 use Rattle.mix_session.specs.Timeline.{Timeline, world_of}
 use Rattle.mix_session.specs.declared.answer.Answer.{Answer}
 use Rattle.mix_session.specs.declared.answer.Answer.TheVariants as answers
 use Rattle.mix_session.specs.declared.command.stops.Way.TheVariants as session
 use Rattle.mix_session.specs.declared.reply.End.{End}
 use Rattle.mix_session.specs.declared.reply.End.TheVariants as ends
-use Rattle.mix_dap.specs.Points.{PointsState, conditions_of, is_filter, passes, reason_at, stop_cells, with_arrivals}
+use Rattle.dap_points.specs.Points.{PointsState, is_filter, passes, reason_at, stops_of, with_arrivals}
 use Rattle.mix_dap.specs.Stopped.{Why, end_of, fault_at, long_enough, out_of_memory, why_with}
 use Rattle.mix_dap.specs.declared.adapter.Way.{Way}
 use Rattle.mix_dap.specs.declared.adapter.Way.TheVariants as way
-
--- what stops a run of the client: its breakpoints, its kinds of exceptions, and a location that is waited for; the breakpoints of the machine don't
-abbrev pub stops_of : PointsState → Option ℕ → StopsState
-stops_of points location =
-    record { breaks = false; cells = stop_cells points; watched = conditions_of points; location = location }
 
 -- the location that a run waits for
 abbrev pub awaited_by : Way → Option ℕ

@@ -2,10 +2,10 @@
 
 ghost use Rattle.std.specs.Prelude.{◌≡◌, IfErr, IfOk, IfNone, IfSome, IsErr, OnErr, OnOk, Ok};
 ghost use Rattle.dap_message.specs.Message.{refusal_message, Adds};
-ghost use Rattle.mix_dap.specs.Kind.{kind_asked};
+ghost use Rattle.dap_asked.specs.Kind.{kind_asked};
 ghost use Rattle.mix_dap.specs.Answer.{HasTexts, launch_shown, launch_told};
 ghost use Rattle.mix_dap.specs.Events.{AddsAnswer};
-ghost use Rattle.mix_dap.specs.Fault.{fault_number, fault_text, fault_place};
+ghost use Rattle.dap_asked.specs.Fault.{fault_number, fault_text, fault_place};
 ghost use Rattle.mix_dap.specs.Launched.{launched_of};
 ghost use Rattle.mix_dap.specs.Output.{none_told};
 ghost use Rattle.mix_dap.specs.Reaction.{reaction};
@@ -25,16 +25,14 @@ mod tell;
 
 use crate::capabilities::Client;
 use crate::event::tell_event;
-use crate::fault::{Fault, refuse};
-use crate::kind::{Kind, kind_asked};
 use crate::launch::{Opening, Texts};
-use crate::list::nothing;
 use crate::loaded::session_of;
-use crate::points::Points;
 use crate::printed::Printed;
 use crate::report::tell_report;
 use crate::waiting::Waiting;
+use dap_asked::{Fault, Kind, kind_asked, nothing, refuse};
 use dap_message::{Outbox, Request};
+use dap_points::Points;
 use mix_machine::MixFault;
 use mix_refused::{Memory, Refused};
 use mix_session::Session;

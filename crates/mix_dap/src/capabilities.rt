@@ -5,7 +5,7 @@ ghost use Rattle.serde_json.specs.View.{view};
 ghost use Rattle.dap_message.specs.Fields.{members_in};
 ghost use Rattle.mix_dap.specs.Capabilities.{put_abilities, put_filters, capabilities, conflict_filter, asked_flag, first_by, client_of, unknown_client};
 
-use crate::list::add;
+use dap_asked::add;
 use dap_message::{Fields, Request};
 use mix_refused::Memory;
 use serde_json::Value;

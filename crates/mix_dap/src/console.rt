@@ -3,9 +3,9 @@
 ghost use Rattle.std.specs.Prelude.{◌≡◌, IfOk};
 ghost use Rattle.std.specs.Option.{option_map};
 ghost use Rattle.mix_dap.specs.Console.{is_command, is_script, line_meant, said_of};
-ghost use Rattle.mix_dap.specs.Deed.{is_console_of, is_line};
+ghost use Rattle.dap_asked.specs.Deed.{is_console_of, is_line};
 
-use crate::kind::Act;
+use dap_asked::Act;
 use dap_message::Request;
 use mix_person::{Line, kind_of, only_said, person_line};
 use mix_refused::Memory;

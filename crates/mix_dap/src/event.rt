@@ -4,7 +4,7 @@ ghost use Rattle.std.specs.Prelude.{[], ◌∷◌, OnOk};
 ghost use Rattle.serde_json.specs.Data.{null};
 ghost use Rattle.mix_dap.specs.Events.{AddsEvents};
 
-use crate::list::nothing;
+use dap_asked::nothing;
 use dap_message::Outbox;
 use mix_refused::Memory;
 

@@ -3,10 +3,10 @@
 ghost use Rattle.std.specs.Prelude.{◌≡◌, ℕ, List, None, Some, IfOk, Err};
 ghost use Rattle.std.specs.Option.{option_map};
 ghost use Rattle.mix_refused.specs.Refused.{IfFault};
-ghost use Rattle.mix_dap.specs.declared.fault.Fault.TheVariants.{NotOpened};
+ghost use Rattle.dap_asked.specs.declared.fault.Fault.TheVariants.{NotOpened};
 ghost use Rattle.mix_dap.specs.Texts.{Known, Gives, IsText, AreCards, AreTexts, opening_of, RefusesText, RefusesTexts};
 
-use crate::fault::Fault;
+use dap_asked::Fault;
 use dap_message::Request;
 use mix_files::MAX_BUNDLE_BYTES;
 use mix_machine::MAX_DECK_BYTES;

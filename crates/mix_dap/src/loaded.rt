@@ -10,8 +10,8 @@ ghost use Rattle.mix_dap.specs.Answer.{launch_shown};
 ghost use Rattle.mix_dap.specs.Launch.{launched, or_source, or_deck, units_launched, cards_launched, typed_launched};
 ghost use Rattle.mix_dap.specs.Launched.{deck_in, launched_of, source_of};
 
-use crate::fault::Fault;
 use crate::launch::Texts;
+use dap_asked::Fault;
 use mix_files::parts_of;
 use mix_machine::Units;
 use mix_refused::Refused;

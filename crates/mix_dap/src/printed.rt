@@ -6,8 +6,8 @@ ghost use Rattle.mix_machine.specs.World.{unit_at};
 ghost use Rattle.mix_dap.specs.Events.{AddsEvents};
 ghost use Rattle.mix_dap.specs.Output.{all_told, none_told, output, outputs, row_line, row_output, taken_line, taken_output, unit_outputs};
 
-use crate::variables::{row_text, unit_at};
 use dap_message::Outbox;
+use dap_views::{row_text, unit_at};
 use mix_machine::{Row, Unit, UnitNo, World};
 use mix_refused::Memory;
 use std::alloc::Global;

@@ -1,21 +1,19 @@
 //! Before a program is launched.
 
 ghost use Rattle.std.specs.Prelude.{◌≡◌, [], IfOk, OnOk};
-ghost use Rattle.mix_dap.specs.Kind.{kind_before};
+ghost use Rattle.dap_asked.specs.Kind.{kind_before};
 ghost use Rattle.mix_dap.specs.Before.{LaunchShows, AskedShows, client_after};
 ghost use Rattle.mix_dap.specs.Capabilities.{unknown_client};
-ghost use Rattle.mix_dap.specs.Given.{given_told};
+ghost use Rattle.dap_views.specs.Given.{given_told};
 ghost use Rattle.mix_dap.specs.Events.{AddsAnswer};
 ghost use Rattle.mix_dap.specs.Replies.{answer_message};
 
 use crate::capabilities::{Client, capabilities};
 use crate::event::tell_event;
-use crate::fault::{Fault, refuse};
-use crate::kind::{Given, Kind, kind_before};
 use crate::launch::{Library, Texts, texts_of};
-use crate::list::nothing;
-use crate::view::given_view;
+use dap_asked::{Fault, Given, Kind, kind_before, nothing, refuse};
 use dap_message::{Outbox, Request};
+use dap_views::given_view;
 use mix_refused::{Memory, Refused};
 use serde_json::Value;
 use std::alloc::Global;

@@ -6,19 +6,18 @@ ghost use Rattle.mix_session.specs.Command.{after, effect_of, effect_of_run, Beg
 ghost use Rattle.mix_session.specs.Stops.{no_stops};
 ghost use Rattle.mix_session.specs.declared.command.stops.Way.TheVariants as ways;
 ghost use Rattle.mix_session.specs.declared.request.Request.TheVariants.{BackAll};
-ghost use Rattle.mix_dap.specs.Deed.{deed_asked, effect_of_deed};
+ghost use Rattle.dap_asked.specs.Deed.{effect_of_deed};
+ghost use Rattle.mix_dap.specs.Console.{deed_asked};
 ghost use Rattle.mix_dap.specs.Leaves.{BreaksOff, Does, unless_refused};
 ghost use Rattle.mix_dap.specs.Reaction.{acts, beside, deed_done, restarted, written};
 ghost use Rattle.mix_dap.specs.Reacts.{Answered, AnsweredOr, Keeps};
-ghost use Rattle.mix_dap.specs.Written.{Writes, write_asked};
+ghost use Rattle.dap_points.specs.Written.{Writes, write_asked};
 
 use crate::adapter::{Adapter, Then};
 use crate::console::is_line;
-use crate::deed::{Deed, deed_of};
-use crate::fault::Fault;
-use crate::kind::Act;
-use crate::set::write_memory;
+use dap_asked::{Act, Deed, Fault, deed_of};
 use dap_message::{Fields, Outbox, Request};
+use dap_points::write_memory;
 use mix_refused::{Memory, Refused};
 use mix_session::{Answer, Session, Stops};
 
@@ -79,7 +78,7 @@ impl Adapter {
     }
 
     // Bytes are written into the memory.
-    #[tactic(auto, using(crate::proofs::EventLemmas::answering, crate::proofs::WrittenLemmas::some_written))]
+    #[tactic(auto, using(crate::proofs::EventLemmas::answering, dap_points::proofs::WrittenLemmas::some_written))]
     pub(crate) fn write(
         &mut self,
         request: &Request,

@@ -12,11 +12,9 @@ ghost use Rattle.mix_dap.specs.Reacts.{AnsweredOr, Begins, KeepsSaid};
 use crate::adapter::{Adapter, Then};
 use crate::capabilities::capabilities;
 use crate::event::tell_event;
-use crate::fault::Fault;
-use crate::kind::Kind;
-use crate::list::nothing;
-use crate::view::given_view;
+use dap_asked::{Fault, Kind, nothing};
 use dap_message::{Outbox, Request};
+use dap_views::given_view;
 use mix_refused::{Memory, Refused};
 
 impl Adapter {

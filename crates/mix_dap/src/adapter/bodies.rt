@@ -5,10 +5,9 @@ ghost use Rattle.std.specs.Str.Lossy.{utf8_lossy};
 ghost use Rattle.serde_json.specs.View.{view};
 ghost use Rattle.dap_message.specs.Fields.{members_in};
 ghost use Rattle.mix_dap.specs.Answer.{line_body, put_number, put_result, worth_body};
-ghost use Rattle.mix_dap.specs.Value.{evaluated, number_asked};
+ghost use Rattle.dap_asked.specs.Value.{evaluated, number_asked};
 
-use crate::look::put_fault;
-use crate::value::{evaluated, number_asked};
+use dap_asked::{evaluated, number_asked, put_fault};
 use dap_message::{Fields, Request};
 use mix_machine::MixFault;
 use mix_refused::Memory;

@@ -3,8 +3,8 @@
 ghost use Rattle.std.specs.Prelude.{◌≡◌, codes, Ok};
 ghost use Rattle.mix_refused.specs.Refused.{IfMemory};
 ghost use Rattle.dap_message.specs.Request.{text_of};
-ghost use Rattle.mix_dap.specs.Console.{line_meant, said_of};
-ghost use Rattle.mix_dap.specs.Deed.{console_asked, console_deed, effect_of_deed, line_deed};
+ghost use Rattle.mix_dap.specs.Console.{console_asked, console_deed, line_meant, said_of};
+ghost use Rattle.dap_asked.specs.Deed.{effect_of_deed, line_deed};
 ghost use Rattle.mix_dap.specs.Leaves.{BreaksOff, Does};
 ghost use Rattle.mix_dap.specs.Reaction.{console, line_done, said_or_done};
 ghost use Rattle.mix_dap.specs.Reacts.{AnsweredOr, Keeps};
@@ -12,8 +12,7 @@ ghost use Rattle.mix_dap.specs.Reacts.{AnsweredOr, Keeps};
 use crate::adapter::act::done;
 use crate::adapter::{Adapter, Then};
 use crate::console::{line_meant, said_of};
-use crate::deed::{Deed, line_deed};
-use crate::fault::Fault;
+use dap_asked::{Deed, Fault, line_deed};
 use dap_message::{Outbox, Request};
 use mix_refused::Refused;
 

@@ -3,10 +3,10 @@
 ghost use Rattle.std.specs.Prelude.{◌≡◌, IfErr, IfOk};
 ghost use Rattle.mix_session.specs.Command.{Begun};
 ghost use Rattle.mix_session.specs.declared.answer.Answer.TheVariants.{Ran};
-ghost use Rattle.mix_dap.specs.Runs.{Leg, RunBroken, RunDone, awaited_by, counted_by, effect_of_leg, passes_by, points_counted, timeline_after};
+ghost use Rattle.mix_dap.specs.Runs.{Leg, RunBroken, RunDone, awaited_by, effect_of_leg, passes_by, points_counted, timeline_after};
 
 use crate::adapter::Way;
-use crate::points::Points;
+use dap_points::Points;
 use mix_machine::World;
 use mix_refused::Memory;
 use mix_session::{End, Session};
@@ -47,7 +47,10 @@ fn run_leg(
         IfErr result (λ _. Begun (effect_of_leg way leg) session.new.timeline × (points.new ≡ points.old)) }
 {
     let (made, end) = run_to(session, points, way, left)?;
-    count_by(end, session.world(), points);
+    match end {
+        End::Halt | End::Until(_) | End::Break => points.count(session.world()),
+        End::Fault(_) | End::Arrived | End::Limit | End::Start => {}
+    }
     Ok((made, end))
 }
 
@@ -74,16 +77,6 @@ fn awaited_by(way: Way) -> Option<u16>
     match way {
         Way::Forth(location) => location,
         Way::Back => None,
-    }
-}
-
-// A run whose last change has ended it so is counted, if it has come to a cell of breakpoints.
-fn count_by(end: End, world: &World, points: &mut Points)
-    ensures { points.new ≡ counted_by end world.now points.old }
-{
-    match end {
-        End::Halt | End::Until(_) | End::Break => points.count(world),
-        End::Fault(_) | End::Arrived | End::Limit | End::Start => {}
     }
 }
 

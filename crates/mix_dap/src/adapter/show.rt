@@ -3,28 +3,23 @@
 ghost use Rattle.std.specs.Prelude.{◌≡◌, IfOk, OnOk, OnErr, string_bytes};
 ghost use Rattle.serde_json.specs.View.{view};
 ghost use Rattle.mix_dap.specs.Answer.{shown_of};
-ghost use Rattle.mix_dap.specs.List.{Shows};
-ghost use Rattle.mix_dap.specs.Look.{exception_of, exception_shown};
-ghost use Rattle.mix_dap.specs.Points.{none_set, points_after, points_told};
+ghost use Rattle.dap_asked.specs.List.{Shows};
+ghost use Rattle.dap_asked.specs.Look.{exception_of, exception_shown};
+ghost use Rattle.dap_points.specs.Points.{none_set, points_after, points_told};
 ghost use Rattle.mix_dap.specs.Reaction.{points_answer, points_set};
 
 use crate::adapter::Adapter;
-use crate::completions::completions;
-use crate::disassembly::disassemble;
-use crate::fault::Fault;
-use crate::kind::{Look, Target};
 use crate::launch::Opening;
-use crate::look::{Name, put_exception, scopes, stack_trace, threads};
-use crate::memory::read_memory;
-use crate::points::{breakpoint_locations, never};
-use crate::set::goto_targets;
-use crate::variables::variables;
-use crate::view::{
-    change_view, counts_view, next_view, path_view, program_view, state_view, units_view,
-    writes_view,
+use dap_asked::{
+    Fault, Look, Name, Target, data_breakpoint_info, put_exception, read_memory, scopes,
+    stack_trace, threads,
 };
-use crate::watch::data_breakpoint_info;
 use dap_message::{Fields, Request};
+use dap_points::{breakpoint_locations, completions_view, disassemble, goto_targets, never};
+use dap_views::{
+    change_view, counts_view, next_view, path_view, program_view, state_view, units_view,
+    variables_view, writes_view,
+};
 use mix_machine::MixFault;
 use mix_refused::{Memory, Refused};
 use serde_json::Value;
@@ -43,7 +38,7 @@ impl Adapter {
             Look::Threads => Ok(threads(alloc)?),
             Look::Frames => Ok(stack_trace(alloc, session, name, first, request)?),
             Look::Scopes => Ok(scopes(alloc)?),
-            Look::Variables => variables(alloc, session.world(), request),
+            Look::Variables => variables_view(alloc, session.world(), request),
             Look::Fault => exception_info(alloc, self.fault),
             Look::Memory => read_memory(alloc, session.world(), request),
             Look::Instructions => disassemble(alloc, session, name, first, request),
@@ -52,7 +47,12 @@ impl Adapter {
             Look::Locations => {
                 breakpoint_locations(alloc, session.program(), name.whole, first, request)
             }
-            Look::Completions => completions(alloc, session, self.client.first_column, request),
+            Look::Completions => completions_view(
+                alloc,
+                session,
+                self.client.first_column,
+                request,
+            ),
             Look::Program => Ok(program_view(alloc, session.program())?),
             Look::Counts => Ok(counts_view(alloc, session)?),
             Look::Path => path_view(alloc, session, request),

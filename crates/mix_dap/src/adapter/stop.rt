@@ -7,7 +7,7 @@ ghost use Rattle.serde_json.specs.View.{view};
 ghost use Rattle.mix_session.specs.Conflicts.{conflict_text};
 ghost use Rattle.mix_session.specs.Timeline.{world_of};
 ghost use Rattle.mix_dap.specs.Ended.{end_told, fault_told, over_told};
-ghost use Rattle.mix_dap.specs.Events.{AddsEvents, all_areas, invalidated, out_of_date, stopped};
+ghost use Rattle.mix_dap.specs.Events.{AddsEvents, invalidated, out_of_date, stopped};
 ghost use Rattle.mix_dap.specs.Output.{all_told, outputs};
 ghost use Rattle.mix_dap.specs.Reacts.{Keeps};
 ghost use Rattle.mix_dap.specs.Runs.{before_last, conflict_met, meets_filter, why_of_run, word_at};
@@ -17,9 +17,9 @@ use crate::adapter::ends::{fault_at, is_limit, put_text, text_of};
 use crate::adapter::{Adapter, Way};
 use crate::event::tell_event;
 use crate::launch::Opening;
-use crate::look::THREAD;
-use crate::points::Points;
+use dap_asked::THREAD;
 use dap_message::{Fields, Outbox};
+use dap_points::Points;
 use mix_machine::{Conflict, MixFault};
 use mix_refused::Memory;
 use mix_session::{End, Session, conflict_text};
@@ -220,18 +220,10 @@ fn before_last(way: Way, session: &Session) -> usize
 fn out_of_date(alloc: Global, out: &mut Outbox) -> Result<(), Memory>
     ensures { OnOk result (AddsEvents (out_of_date ∷ []) out.old out.new) }
 {
-    let body = all_areas(alloc)?;
-    out.event("invalidated", body)?;
-    Ok(())
-}
-
-// All that a client shows.
-fn all_areas(alloc: Global) -> Result<Value, Memory>
-    ensures { IfOk result (λ body. view body ≡ all_areas) }
-{
     let mut areas = Vec::new(alloc);
     areas.push(Value::try_from_str(alloc, "all")?)?;
     let mut body = Fields::new(alloc);
     body.list("areas", areas)?;
-    Ok(body.done())
+    out.event("invalidated", body.done())?;
+    Ok(())
 }

@@ -10,14 +10,12 @@ ghost use Rattle.mix_dap.specs.Reaction.{acted, beside, replied, restarted, step
 ghost use Rattle.mix_dap.specs.Reacts.{Answered, Keeps};
 ghost use Rattle.mix_dap.specs.Replies.{answer_message};
 ghost use Rattle.mix_dap.specs.Stopped.{end_of};
-ghost use Rattle.mix_dap.specs.Value.{evaluated, number_asked};
+ghost use Rattle.dap_asked.specs.Value.{evaluated, number_asked};
 
 use crate::adapter::bodies::{line_body, put_result, worth_body};
 use crate::adapter::ends::fault_in;
 use crate::adapter::{Adapter, Then, Way};
-use crate::kind::Act;
-use crate::list::nothing;
-use crate::value::{value_asked, worth_asked};
+use dap_asked::{Act, nothing, value_asked, worth_asked};
 use dap_message::{Fields, Outbox, Request};
 use mix_machine::{MixFault, Reg};
 use mix_refused::Memory;

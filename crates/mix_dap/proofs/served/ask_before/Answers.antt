@@ -1,7 +1,7 @@
 -- What waits after a request is what its contract says, and nothing waited before it.
 use Rattle.std.proofs.Common.{inl, inr, refl, subst}
 use Rattle.std.specs.Prelude.{IfNone, IfSome, IsErr}
-use Rattle.mix_dap.specs.Kind.{kind_before}
+use Rattle.dap_asked.specs.Kind.{kind_before}
 use Rattle.mix_dap.specs.Before.{AskedShows}
 use Rattle.mix_dap.specs.Dialogue.{BeginsAs}
 use Rattle.mix_dap.specs.Launched.{launched_of}

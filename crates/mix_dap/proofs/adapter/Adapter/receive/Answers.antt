@@ -1,6 +1,6 @@
 -- A request that is not as it has to be is refused.
 use Rattle.std.proofs.Common.{sym, ◌∙◌}
-use Rattle.mix_dap.specs.Kind.{kind_asked}
+use Rattle.dap_asked.specs.Kind.{kind_asked}
 use Rattle.mix_dap.proofs.ReactionLemmas.{on-misread}
 use Rattle.mix_dap.proofs.adapter.Adapter.receive.Goals as goal
 

@@ -1,6 +1,6 @@
 -- An answer alone.
 use Rattle.mix_dap.specs.Answer.{worth_body}
-use Rattle.mix_dap.specs.Value.{evaluated, number_asked}
+use Rattle.dap_asked.specs.Value.{evaluated, number_asked}
 use Rattle.mix_dap.proofs.EventLemmas.{answer-with}
 use Rattle.mix_dap.proofs.adapter.Adapter.tell_worth.Goals as goal
 

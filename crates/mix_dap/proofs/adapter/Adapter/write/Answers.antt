@@ -1,6 +1,6 @@
 -- The answer tells how many bytes were written, and then what is out of date.
 use Rattle.std.proofs.Common.{rules}
-use Rattle.mix_dap.specs.Written.{write_asked}
+use Rattle.dap_points.specs.Written.{write_asked}
 use Rattle.mix_dap.proofs.ReactionLemmas.{write-answered}
 use Rattle.mix_dap.proofs.adapter.Adapter.write.Goals as goal
 

@@ -1,0 +1,13 @@
+pub mod ArgumentName
+pub mod Arguments
+pub mod Deed
+pub mod Entries
+pub mod Fault
+pub mod Kind
+pub mod Layout
+pub mod List
+pub mod Look
+pub mod Memory
+pub mod Scope
+pub mod Value
+pub mod Watch

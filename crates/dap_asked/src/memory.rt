@@ -1,0 +1,103 @@
+//! The memory as bytes.
+
+ghost use Rattle.std.specs.Prelude.{◌≡◌, ◌+◌, ◌-◌, ◌≤◌, IfOk, IfSome, OnOk, Ok, Err, codes, map};
+ghost use Rattle.std.specs.List.{range_with_len};
+ghost use Rattle.serde_json.specs.View.{view};
+ghost use Rattle.mix_refused.specs.Refused.{IfFault};
+ghost use Rattle.dap_message.specs.Fields.{members_in};
+ghost use Rattle.dap_asked.specs.Layout.{byte_of_reference, memory_byte};
+ghost use Rattle.dap_asked.specs.List.{Shows};
+ghost use Rattle.dap_asked.specs.Memory.{integer_asked, start_asked, bytes_from, put_missing, memory_shown, memory_asked};
+
+use crate::fault::Fault;
+use crate::layout::{MEMORY_BYTES, byte_of_reference, byte_reference, memory_byte};
+use base64::engine::general_purpose::STANDARD;
+use dap_message::{Fields, Request};
+use mix_machine::World;
+use mix_refused::{Memory, Refused};
+use serde_json::Value;
+use std::alloc::Global;
+
+/// A whole number that a request has, or 0.
+pub fn integer_asked(request: &Request, name: &str) -> i64
+    ensures { result ≡ integer_asked request.now name.now }
+{
+    request.integer(name).unwrap_or(0)
+}
+
+/// The byte that a request about the memory names.
+pub fn start_of(request: &Request) -> Result<u64, Refused<Fault>>
+    ensures is { IfOk result (λ start. start_asked request.now ≡ Ok start) }
+    ensures bound { IfOk result (λ start. start ≤ 24000) }
+    ensures refused { IfFault result (λ why. start_asked request.now ≡ Err why) }
+{
+    let Some(reference) = request.text("memoryReference") else {
+        return Err(Refused::Fault(Fault::BadArgument));
+    };
+    match byte_asked(request, reference) {
+        Some(start) => Ok(start),
+        None => Err(Refused::Fault(Fault::NoSuchThing)),
+    }
+}
+
+// The byte of a reference, with the offset that a request has.
+fn byte_asked(request: &Request, reference: &str) -> Option<u64>
+    ensures is { result ≡ byte_of_reference reference.now (integer_asked request.now (codes "offset")) }
+    ensures bound { IfSome result (λ byte. byte ≤ 24000) }
+{
+    byte_of_reference(reference, integer_asked(request, "offset"))
+}
+
+/// Bytes of the memory, in base64; those beyond it can't be read.
+pub fn read_memory(alloc: Global, world: &World, request: &Request) -> Result<Value, Refused<Fault>>
+    ensures { Shows (memory_asked world.now request.now) result }
+{
+    let start = start_of(request)?;
+    let Some(count) = request.number("count") else {
+        return Err(Refused::Fault(Fault::BadArgument));
+    };
+    Ok(memory_shown(alloc, world, start, count)?)
+}
+
+fn memory_shown(alloc: Global, world: &World, start: u64, count: u64) -> Result<Value, Memory>
+    requires { start ≤ 24000 }
+    ensures { IfOk result (λ v. view v ≡ memory_shown world.now start count) }
+{
+    let bytes = bytes_from(alloc, world, start, count)?;
+    let data = STANDARD.encode(alloc, bytes.as_slice())?;
+    let mut body = Fields::new(alloc);
+    body.text("address", byte_reference(alloc, start)?.as_str())?;
+    body.text("data", data.as_str())?;
+    put_missing(&mut body, count.saturating_sub(MEMORY_BYTES - start))?;
+    Ok(body.done())
+}
+
+fn put_missing(body: &mut Fields, missing: u64) -> Result<(), Memory>
+    ensures { OnOk result (members_in body.new ≡ put_missing missing (members_in body.old)) }
+{
+    match missing {
+        0 => Ok(()),
+        _ => body.number("unreadableBytes", missing),
+    }
+}
+
+// So many bytes of the memory from one on, or those that are there.
+#[tactic(auto, using(crate::proofs::MemoryLemmas::bytes_there))]
+fn bytes_from(alloc: Global, world: &World, start: u64, count: u64) -> Result<Vec<u8>, Memory>
+    requires { start ≤ 24000 }
+    ensures { IfOk result (λ bytes. bytes.items ≡ bytes_from world.now start count) }
+{
+    let there = count.min(MEMORY_BYTES - start);
+    bytes_at(alloc, world, start, there)
+}
+
+fn bytes_at(alloc: Global, world: &World, start: u64, count: u64) -> Result<Vec<u8>, Memory>
+    requires { start + count ≤ 24000 }
+    ensures { IfOk result (λ bytes. bytes.items ≡ map (memory_byte world.now) (range_with_len start count)) }
+{
+    let mut bytes = Vec::new(alloc);
+    for i in 0..count {
+        bytes.push(memory_byte(world, start + i))?;
+    }
+    Ok(bytes)
+}

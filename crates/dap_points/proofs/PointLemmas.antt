@@ -1,0 +1,92 @@
+-- Facts of what stands of breakpoints, of which one more is looked at, and of their cells.
+use Rattle.std.proofs.Common.{◌≡◌, ℕ, zero, suc, ◌+◌, ◌-◌, ◌<◌, Bool, true, false, List, [], ◌∷◌, ◌++◌, length, get_or, slice_set, take, drop, map, filter_map, option_to_list, Option, None, Some, refl, ap, sym, ◌∙◌, arith, add-one, if◌then◌else◌}
+use Rattle.std.proofs.lemmas.List.{length-map, map_more, map_push}
+use Rattle.std.proofs.lemmas.List.Elements.{filter_map-append}
+use Rattle.std.specs.List.{cons_option}
+use Rattle.mix_machine.specs.World.{WorldState}
+use Rattle.dap_points.specs.Breakpoint.{arrives, with_arrival}
+use Rattle.dap_points.specs.Points.{cells_of}
+use Rattle.dap_points.specs.declared.points.breakpoint.Breakpoint.{Breakpoint}
+
+one_alone : {Y : Type 0} (o : Option Y) → cons_option o [] ≡ option_to_list o
+one_alone None = refl
+one_alone (Some y) = refl
+
+one_more : {X Y : Type 0} (h : X → Option Y) (xs : List X) (x : X) → filter_map h (xs ++ x ∷ []) ≡ filter_map h xs ++ option_to_list (h x)
+one_more h xs x = filter_map-append h xs (x ∷ []) ∙ ap (λ t. filter_map h xs ++ t) (one_alone (h x))
+
+-- one entry more, seen as its data
+pub next_entry : {X Y : Type 0} (f : X → Y) (xs : List X) (i : ℕ) (x : X) → i < length xs → x ≡ get_or xs i x → map f (take (i + 1) xs) ≡ map f (take i xs) ++ f x ∷ []
+next_entry f xs i x within is = map_more f xs i x within ∙ ap (λ y. map f (take i xs) ++ f y ∷ []) (sym is)
+
+-- what stands of it stands after what stood, and how it is told is told after what was told
+pub stands_too : {X Y : Type 0} (h : X → Option Y) (front : List X) (x : X) (next : List X) (old new : List Y) →
+    next ≡ front ++ x ∷ [] → old ≡ filter_map h front → new ≡ old ++ option_to_list (h x) → new ≡ filter_map h next
+stands_too h front x next old new is so_far more =
+    more ∙ ap (λ t. t ++ option_to_list (h x)) so_far ∙ sym (one_more h front x) ∙ ap (filter_map h) (sym is)
+
+pub told_too : {X Y : Type 0} (f : X → Y) (front : List X) (x : X) (next : List X) (old new : List Y) (y : Y) →
+    next ≡ front ++ x ∷ [] → old ≡ map f front → new ≡ old ++ y ∷ [] → y ≡ f x → new ≡ map f next
+told_too f front x next old new y is so_far more told =
+    more ∙ ap (λ t. t ++ y ∷ []) so_far ∙ ap (λ z. map f front ++ z ∷ []) told ∙ sym (map_push f front x) ∙ ap (map f) (sym is)
+
+-- ---- their cells
+
+cell-stays : (t : Bool) (b : Breakpoint) (n : ℕ) → (if t then record b { left = n } else b).cell ≡ b.cell
+cell-stays true b n = refl
+cell-stays false b n = refl
+
+all-stay : (w : WorldState) (xs : List Breakpoint) → cells_of (map (with_arrival w) xs) ≡ cells_of xs
+all-stay w [] = refl
+all-stay w (x ∷ xs) = rw (cell-stays (arrives w x) x (x.left - 1), all-stay w xs) refl
+
+both-stay : (w : WorldState) (xs ys : List Breakpoint) → cells_of (map (with_arrival w) xs ++ map (with_arrival w) ys) ≡ cells_of (xs ++ ys)
+both-stay w [] ys = all-stay w ys
+both-stay w (x ∷ xs) ys = rw (cell-stays (arrives w x) x (x.left - 1), both-stay w xs ys) refl
+
+-- arrivals leave them
+cells_stay : (w : WorldState) (cells : List ℕ) (xs ys lines instructions : List Breakpoint) → cells ≡ cells_of (xs ++ ys) → lines ≡ map (with_arrival w) xs
+    → instructions ≡ map (with_arrival w) ys → cells ≡ cells_of (lines ++ instructions)
+cells_stay w cells xs ys lines instructions is first second = rw (first, second) (is ∙ sym (both-stay w xs ys))
+
+-- those of some breakpoints and of others
+both-cells : (xs ys : List Breakpoint) → cells_of xs ++ cells_of ys ≡ cells_of (xs ++ ys)
+both-cells [] ys = refl
+both-cells (x ∷ xs) ys = ap (λ t. x.cell ∷ t) (both-cells xs ys)
+
+pub cells_joined : (none some all : List ℕ) (xs ys : List Breakpoint) → none ≡ [] → some ≡ none ++ cells_of xs → all ≡ some ++ cells_of ys
+    → all ≡ cells_of (xs ++ ys)
+cells_joined none some all xs ys empty first second = second ∙ ap (λ t. t ++ cells_of ys) (first ∙ ap (λ t. t ++ cells_of xs) empty) ∙ both-cells xs ys
+
+-- ---- one element more of a list is made anew
+
+next_made : {X : Type 0} (f : X → X) (old : List X) (i : ℕ) (d : X) → i < length old
+    → slice_set (map f (take i old) ++ drop i old) i (f (get_or (map f (take i old) ++ drop i old) i d)) ≡ map f (take (suc i) old) ++ drop (suc i) old
+next_made f [] i d within = absurd (omega (arith, within))
+next_made f (y ∷ old) zero d within = refl
+next_made f (y ∷ old) (suc i) d within = ap (λ t. f y ∷ t) (next_made f old i d (omega (arith, within)))
+
+pub made_too : {X : Type 0} (f : X → X) (old new : List X) (i : ℕ) (d y : X) → i < length old → new ≡ map f (take i old) ++ drop i old → y ≡ f (get_or new i d)
+    → slice_set new i y ≡ map f (take (i + 1) old) ++ drop (i + 1) old
+made_too f old new i d y within so_far made =
+    ap (λ l. slice_set l i y) so_far
+    ∙ ap (λ z. slice_set (map f (take i old) ++ drop i old) i z) (made ∙ ap (λ l. f (get_or l i d)) so_far)
+    ∙ next_made f old i d within
+    ∙ ap (λ k. map f (take k old) ++ drop k old) (sym (add-one i))
+
+-- ---- a list that was written back
+
+front : {X : Type 0} (xs ys : List X) → take (length xs) (xs ++ ys) ≡ xs
+front [] ys = refl
+front (x ∷ xs) ys = ap (λ t. x ∷ t) (front xs ys)
+
+whole : (w : WorldState) (n : ℕ) (xs slice made more : List Breakpoint) → slice ≡ xs → length slice ≡ n → made ≡ map (with_arrival w) slice
+    → take n (made ++ more) ≡ map (with_arrival w) xs
+whole w n xs slice made more is long made_is =
+    ap (λ k. take k (made ++ more)) (sym (ap length made_is ∙ length-map slice (with_arrival w) ∙ long)) ∙ front made more ∙ made_is ∙ ap (map (with_arrival w)) is
+
+pub counted_stay : (w : WorldState) (cells : List ℕ) (n m : ℕ) (xs ys first second lines instructions more others : List Breakpoint) → cells ≡ cells_of (xs ++ ys)
+    → first ≡ xs → length first ≡ n → lines ≡ map (with_arrival w) first → second ≡ ys → length second ≡ m → instructions ≡ map (with_arrival w) second
+    → cells ≡ cells_of (take n (lines ++ more) ++ take m (instructions ++ others))
+counted_stay w cells n m xs ys first second lines instructions more others is first_is first_long lines_is second_is second_long instructions_is =
+    cells_stay w cells xs ys _ _ is (whole w n xs first lines more first_is first_long lines_is) (whole w m ys second instructions others second_is second_long instructions_is)

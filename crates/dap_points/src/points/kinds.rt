@@ -1,0 +1,245 @@
+//! Breakpoints by their kinds: where each that is asked for stands, and how it is told.
+
+ghost use Rattle.std.specs.Prelude.{◌≡◌, ◌++◌, IfOk, OnOk, Option, None};
+ghost use Rattle.std.specs.Option.{option_to_list};
+ghost use Rattle.std.specs.List.{filter_map};
+ghost use Rattle.serde_json.specs.Data.{Data};
+ghost use Rattle.serde_json.specs.View.{view};
+ghost use Rattle.dap_message.specs.Fields.{members_in};
+ghost use Rattle.dap_asked.specs.Entries.{entries_of};
+ghost use Rattle.dap_points.specs.Points.{answer_by, verified, verified_at, unverified, line_asked, line_point, line_told, instruction_cell, instruction_asked, instruction_point, instruction_told, data_point, data_told, none_told};
+
+use crate::points::breakpoint::{Breakpoint, Flaw, breakpoint_at};
+use crate::points::line::cell_of_line;
+use dap_asked::{
+    add, cell_of_reference, entries_of, integer_in, line_for, list_alone, number_in, part_named,
+    reference_of, source_line, text_in,
+};
+use dap_message::{Fields, Request};
+use mix_machine::Place;
+use mix_refused::Memory;
+use mix_session::{Condition, Session};
+use serde_json::Value;
+use std::alloc::Global;
+
+/// Breakpoints of one kind.
+pub(crate) trait PointKind {
+    /// What stands of one.
+    type Point: Drop;
+
+    // What stands of the one that an entry asks for, if it can stand.
+    ghost point: { Self → Data → Option Self.Point };
+
+    // How it is told.
+    ghost told: { Self → Data → Data };
+
+    /// Adds what stands of the one that an entry asks for, and gives how it is told.
+    fn add(
+        &self,
+        alloc: Global,
+        entry: &Value,
+        points: &mut Vec<Self::Point>,
+    ) -> Result<Value, Memory>
+        ensures stands { OnOk result (points.new.items ≡ points.old.items ++ option_to_list (point self.now (view entry.now))) }
+        ensures told { IfOk result (λ v. view v ≡ told self.now (view entry.now)) };
+}
+
+/// What stands of all that a request asks for in the list of a name, and its answer.
+pub(crate) fn set_all<K: PointKind>(
+    alloc: Global,
+    kind: &K,
+    request: &Request,
+    name: &str,
+) -> Result<(Vec<K::Point>, Value), Memory>
+    ensures stand { IfOk result (λ set. set.0.items ≡ filter_map (K.point kind.now) (entries_of request.now name.now)) }
+    ensures told { IfOk result (λ set. view set.1 ≡ answer_by (K.told kind.now) (entries_of request.now name.now)) }
+{
+    let mut points = Vec::new(alloc);
+    let mut told = Vec::new(alloc);
+    let entries = entries_of(request, name);
+    for entry in entries {
+        add(&mut told, kind.add(alloc, entry, &mut points)?)?;
+    }
+    Ok((points, list_alone(alloc, "breakpoints", told)?))
+}
+
+/// Those of lines of the program, which the client counts from this first one on.
+#[derive(Clone, Copy)]
+pub(crate) struct Lines<'a> {
+    pub session: &'a Session,
+    pub first: u64,
+}
+
+impl PointKind for Lines<'_> {
+    type Point = Breakpoint;
+
+    ghost point = { λ kind. line_point kind.session.now kind.first };
+
+    ghost told = { λ kind entry. line_told kind.first (line_asked kind.session.now kind.first entry) };
+
+    fn add(
+        &self,
+        alloc: Global,
+        entry: &Value,
+        points: &mut Vec<Breakpoint>,
+    ) -> Result<Value, Memory> {
+        match line_asked(self.session, self.first, entry) {
+            Ok((breakpoint, line)) => {
+                let cell = breakpoint.cell;
+                points.push(breakpoint)?;
+                let mut fields = verified_at(alloc, cell)?;
+                fields.number("line", line_for(self.first, line))?;
+                Ok(fields.done())
+            }
+            Err(flaw) => unverified(alloc, flaw.text()),
+        }
+    }
+}
+
+// One of a line, with the line of the word at its cell.
+fn line_asked(session: &Session, first: u64, entry: &Value) -> Result<(Breakpoint, u64), Flaw>
+    ensures { result ≡ line_asked session.now first (view entry.now) }
+{
+    let number = source_line(first, number_in("line", entry).unwrap_or(0));
+    let (cell, line) = cell_of_line(session.program(), number).ok_or(Flaw::NoWord)?;
+    let breakpoint = breakpoint_at(session, entry, cell)?;
+    Ok((breakpoint, line))
+}
+
+/// Those of instructions.
+#[derive(Clone, Copy)]
+pub(crate) struct Instructions<'a> {
+    pub session: &'a Session,
+}
+
+impl PointKind for Instructions<'_> {
+    type Point = Breakpoint;
+
+    ghost point = { λ kind. instruction_point kind.session.now };
+
+    ghost told = { λ kind entry. instruction_told (instruction_asked kind.session.now entry) };
+
+    fn add(
+        &self,
+        alloc: Global,
+        entry: &Value,
+        points: &mut Vec<Breakpoint>,
+    ) -> Result<Value, Memory> {
+        match instruction_asked(self.session, entry) {
+            Ok((breakpoint, cell)) => {
+                points.push(breakpoint)?;
+                Ok(verified_at(alloc, cell)?.done())
+            }
+            Err(flaw) => unverified(alloc, flaw.text()),
+        }
+    }
+}
+
+// One of an instruction, with its cell.
+fn instruction_asked(session: &Session, entry: &Value) -> Result<(Breakpoint, Place), Flaw>
+    ensures { result ≡ instruction_asked session.now (view entry.now) }
+{
+    let cell = instruction_cell(entry).ok_or(Flaw::NoCell)?;
+    let breakpoint = breakpoint_at(session, entry, cell)?;
+    Ok((breakpoint, cell))
+}
+
+fn instruction_cell(entry: &Value) -> Option<Place>
+    ensures { result ≡ instruction_cell (view entry.now) }
+{
+    let reference = text_in("instructionReference", entry)?;
+    cell_of_reference(reference, integer_in("offset", entry).unwrap_or(0))
+}
+
+/// Data breakpoints.
+#[derive(Clone, Copy)]
+pub(crate) struct Parts<'a> {
+    pub session: &'a Session,
+}
+
+impl PointKind for Parts<'_> {
+    type Point = Condition;
+
+    ghost point = { λ kind. data_point kind.session.now };
+
+    ghost told = { λ kind entry. data_told (data_point kind.session.now entry) };
+
+    fn add(
+        &self,
+        alloc: Global,
+        entry: &Value,
+        points: &mut Vec<Condition>,
+    ) -> Result<Value, Memory> {
+        match part_named(self.session, text_in("dataId", entry).unwrap_or("")) {
+            Some(part) => {
+                points.push(Condition::Alters(part))?;
+                Ok(verified(alloc)?.done())
+            }
+            None => unverified(alloc, "no such part of the machine"),
+        }
+    }
+}
+
+/// Those of which none stands, for this reason.
+#[derive(Clone, Copy)]
+struct Unset {
+    why: &'static str,
+}
+
+impl PointKind for Unset {
+    type Point = Breakpoint;
+
+    ghost point = { λ _ _. None };
+
+    ghost told = { λ kind. none_told kind.why.now };
+
+    fn add(
+        &self,
+        alloc: Global,
+        _entry: &Value,
+        _points: &mut Vec<Breakpoint>,
+    ) -> Result<Value, Memory> {
+        unverified(alloc, self.why)
+    }
+}
+
+/// The answer to a request for breakpoints in the list of a name of which none stands, for this reason.
+pub fn never(
+    alloc: Global,
+    why: &'static str,
+    request: &Request,
+    name: &str,
+) -> Result<Value, Memory>
+    ensures { IfOk result (λ v. view v ≡ answer_by (none_told why.now) (entries_of request.now name.now)) }
+{
+    let (_, told) = set_all(alloc, &Unset { why }, request, name)?;
+    Ok(told)
+}
+
+/// That one stands.
+pub(super) fn verified(alloc: Global) -> Result<Fields, Memory>
+    ensures { IfOk result (λ f. members_in f ≡ verified) }
+{
+    let mut fields = Fields::new(alloc);
+    fields.flag("verified", true)?;
+    Ok(fields)
+}
+
+fn verified_at(alloc: Global, place: Place) -> Result<Fields, Memory>
+    ensures { IfOk result (λ f. members_in f ≡ verified_at place) }
+{
+    let mut fields = verified(alloc)?;
+    let reference = reference_of(alloc, place.number())?;
+    fields.text("instructionReference", reference.as_str())?;
+    Ok(fields)
+}
+
+/// Why one does not stand.
+pub(super) fn unverified(alloc: Global, why: &str) -> Result<Value, Memory>
+    ensures { IfOk result (λ v. view v ≡ unverified why.now) }
+{
+    let mut fields = Fields::new(alloc);
+    fields.flag("verified", false)?;
+    fields.text("message", why)?;
+    Ok(fields.done())
+}

@@ -1,0 +1,5 @@
+pub mod AskedLemmas
+pub mod CountsLemmas
+pub mod NextLemmas
+pub mod PathLemmas
+pub mod WritesLemmas
