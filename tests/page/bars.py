@@ -199,14 +199,13 @@ def fields(page, native, count):
     count.same("bars: the first of a long range", (len(page.script(SHOWN)), page.text("bars-more")), (120, "These are the first 120 of 1,000 cells."))
 
 
-def bars_kept(page, native, count):
-    """The picture as a file and as a text; kept in what is saved and shared; no call of the engine of its own."""
-    open_sort(page)
+def as_many_calls(page, count, shown):
+    """The engine is called as often while what is shown is open as while it is not. It stays open then."""
     page.click("step")
     page.script(CALLS)
     calls = []
-    for is_open in (True, False):
-        page.script("document.getElementById('bars-box').open = arguments[0]", is_open)
+    for is_open in (False, True):
+        page.script(f"document.getElementById('{shown}-box').open = arguments[0]", is_open)
         page.press()
         page.script("window.calls = 0")
         for name in ("step", "step", "back"):
@@ -214,9 +213,13 @@ def bars_kept(page, native, count):
         page.slide(1, ends=False)
         page.slide(1)
         calls.append(page.script("return window.calls"))
-    count.same("bars: as many calls of the engine with them as without", calls[0], calls[1])
-    page.script("document.getElementById('bars-box').open = true")
-    page.press()
+    count.same(f"{shown}: as many calls of the engine with them as without", calls[1], calls[0])
+
+
+def bars_kept(page, native, count):
+    """The picture as a file and as a text; kept in what is saved and shared; no call of the engine of its own."""
+    open_sort(page)
+    as_many_calls(page, count, "bars")
     page.click("run")
     page.choose("bars-by", "field")
     page.put("bars-field", "4:5")

@@ -1,7 +1,7 @@
 """Linked nodes as boxes and arrows, for a list whose cells follow from its program: at each moment, as a picture and as a text, kept and shared."""
 import xml.etree.ElementTree as tree
 
-from bars import CALLS
+from bars import as_many_calls
 from guards import link_of
 
 # Three nodes of two words, a key and a link; then rI1 and rI2 point to the first two, and the last
@@ -69,21 +69,7 @@ def nodes(page, native, count):
 def nodes_kept(page, native, count):
     """Kept in the address and in a file, with no call of the engine of their own; a remark of a source or of a script opens them."""
     open_nodes(page)
-    page.click("step")
-    page.script(CALLS)
-    calls = []
-    for is_open in (True, False):
-        page.script("document.getElementById('nodes-box').open = arguments[0]", is_open)
-        page.press()
-        page.script("window.calls = 0")
-        for name in ("step", "step", "back"):
-            page.click(name)
-        page.slide(1, ends=False)
-        page.slide(1)
-        calls.append(page.script("return window.calls"))
-    count.same("nodes: as many calls of the engine with them as without", calls[0], calls[1])
-    page.script("document.getElementById('nodes-box').open = true")
-    page.press()
+    as_many_calls(page, count, "nodes")
     page.wait(lambda: page.all("#nodes svg"))
     root = tree.fromstring(page.copied("nodes-copy"))
     texts = [element.text for element in root.iter("{http://www.w3.org/2000/svg}text")]
