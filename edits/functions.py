@@ -27,20 +27,14 @@ def without_brackets(text):
     return "".join(left)
 
 
-def last_word(path):
-    return re.findall(r"\w+", path)[-1]
-
-
 def owner_of(kind, header):
     """What matches the part of a name that the block with this header gives the functions in it, and the trait that they are of, or ''."""
     header = without_brackets(header).split("{")[0].split(" where ")[0]
     if kind == "trait":
-        name = re.findall(r"\w+", header)[0]
-        return name, name
-    of_trait, _, of_type = header.rpartition(" for ")
-    name = last_word(of_type)
+        return (re.findall(r"\w+", header)[0],) * 2
+    *trait, name = (re.findall(r"\w+", path)[-1] for path in header.rsplit(" for ", 1))
     name = name[0].upper() + name[1:]
-    return (rf"{name}\w*{last_word(of_trait)}\w*", last_word(of_trait)) if of_trait else (name, "")
+    return (rf"{name}\w*{trait[0]}\w*", trait[0]) if trait else (name, "")
 
 
 def end_of(lines, first, indent):

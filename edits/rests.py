@@ -111,23 +111,18 @@ def used(text):
     return {name: crate for crate, name in PATH.findall(text)} | {word: crate for crate, names in USE.findall(text) for word in WORD.findall(names)}
 
 
-def is_public(line):
-    """Whether crates above can name what a line declares."""
-    return line.lstrip().startswith("pub ")
-
-
 def pieces_of_source(crate, file, text):
     lines = text.split("\n")
     every, imports = functions_of(crate, file, text), imported(lines) | {"use": used(text)}
     for one in every:
         end = one.last if one.of_trait in SEEN_THROUGH else body_of(lines, one)
         names = [f"{one.word}(", f"{'::'.join(one.end.split('::')[-2:])}("]
-        yield names, plain(lines[one.first : end + 1]), imports, bool(one.of_trait) or is_public(lines[one.first])
+        yield names, plain(lines[one.first : end + 1]), imports, bool(one.of_trait) or lines[one.first].lstrip().startswith("pub ")
     inside = {at for one in every for at in range(one.first, one.last + 1)}
     rest = [line for at, line in enumerate(lines) if at not in inside and not line.startswith("#[")]
     for block in blocks(rest):
         found = DECLARED.match(without_brackets(block[0]))
-        yield [found[1] or found[2]] if found else [], block, imports, not (found and found[1]) or is_public(block[0])
+        yield [found[1] or found[2]] if found else [], block, imports, not (found and found[1]) or block[0].startswith("pub ")
 
 
 def pieces_of_definitions(text):

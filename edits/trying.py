@@ -1,5 +1,6 @@
 """Tries mistakes in a copy of a crate: many at once, each in functions of its own, since the prover tells of each function whether it is proved."""
 
+import functools
 import os
 import re
 import signal
@@ -43,12 +44,8 @@ class Trying:
     """The tries of a crate's mistakes in a copy of it, where the crates below are proved."""
 
     def __init__(self, crate, folder, jobs):
-        self.crate, self.folder, self.jobs, self.kept, self.found, self.ends, self.is_cut = crate, folder, jobs, {}, {}, {}, False
-
-    def text_of(self, file):
-        if file not in self.kept:
-            self.kept[file] = (self.folder / file).read_text(encoding="utf-8")
-        return self.kept[file]
+        self.crate, self.folder, self.jobs, self.found, self.ends, self.is_cut = crate, folder, jobs, {}, {}, False
+        self.text_of = functools.cache(lambda file: (folder / file).read_text(encoding="utf-8"))
 
     def rt(self, *words):
         """The status and the output of a command of rt."""
