@@ -9,13 +9,15 @@ A file has a record for each mistake, and an empty line between two:
     new: body.flag(name, false)?;
 
 The text `old` stands once in the file, and `new` comes in its place. Further pairs apply to what the earlier ones made. A text of several lines has a
-line `old:` or `new:` for each. The name may be left out. A paragraph of comments alone is a heading."""
+line `old:` or `new:` for each. The name may be left out. A paragraph of comments alone is a heading. Behind a new text may stand a `right:` one, of the
+same shape, that means what the old one does: the record's right form has it, and the old text of each pair without one."""
 
 import collections
 import pathlib
 
-Mistake = collections.namedtuple("Mistake", "name says changes")
+Mistake = collections.namedtuple("Mistake", "name says changes right")
 Change = collections.namedtuple("Change", "file old new")
+BEHIND = {"old": ("old", "new"), "new": ("new", "right"), "right": ("right",)}
 
 
 class Unfit(Exception):
@@ -36,20 +38,19 @@ def record_of(lines, name):
             name = text
         elif key == "file" and before != "old":
             file = text
-        elif key == "old" and file and before == "old":
-            changes[-1][1].append(text)
+        elif key in BEHIND.get(before, ()):
+            changes[-1].setdefault(key, []).append(text)
         elif key == "old" and file:
-            changes.append((file, [text], []))
-        elif key == "new" and before in ("old", "new"):
-            changes[-1][2].append(text)
+            changes.append({"file": [file], "old": [text]})
         else:
             raise Unfit(f"this line is not read: {line}")
         before = key
     if not says:
         raise Unfit(f"its first line names no mistake: {rest[0]}")
-    if before != "new":
+    if before not in ("new", "right"):
         raise Unfit(f"it has no new text: {says}")
-    return Mistake(name or says, says, [Change(file, "\n".join(old), "\n".join(new)) for file, old, new in changes])
+    made, right = ([Change(*("\n".join(it[key]) for key in ("file", "old", form))) for it in changes if form in it] for form in ("new", "right"))
+    return Mistake(name or says, says, made, Mistake(f"{name or says}, right", says, right, None) if right else None)
 
 
 def read(path):

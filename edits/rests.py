@@ -168,14 +168,15 @@ def sum_of(edit, crate):
     """The sum of all that the verdict on an edit of a crate rests on."""
     text_of = functools.cache(lambda file: (CRATES / crate / file).read_text(encoding="utf-8"))
     changed, is_outside = changed_by(edit, crate, text_of)
+    changes = edit.changes + (edit.right.changes if edit.right else [])
     texts = [(it.file, plain(text_of(it.file).split("\n")[it.first : it.last + 1])) for it in changed]
     if is_outside:
         texts += [(change.file, plain(text_of(change.file).split("\n"))) for change in edit.changes]
     said, known = set(), set()
-    left = {it for file, lines in texts for it in named([*lines, repr(edit.changes).replace("\\n", " ")], imported(text_of(file).split("\n")) | {"use": used(text_of(file))}, (crate, ""))}
+    left = {it for file, lines in texts for it in named([*lines, repr(changes).replace("\\n", " ")], imported(text_of(file).split("\n")) | {"use": used(text_of(file))}, (crate, ""))}
     while left:
         known |= left
         found = [piece for name in left for piece in meant(*name)]
         said |= {piece.sum for piece in found}
         left = {it for piece in found for it in piece.names} - known
-    return hashlib.sha256(repr((edit.changes, texts, sorted(said))).encode()).hexdigest()[:12]
+    return hashlib.sha256(repr((changes, texts, sorted(said))).encode()).hexdigest()[:12]

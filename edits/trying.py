@@ -17,7 +17,7 @@ SEVERAL = re.compile(r"several functions are named `(.*?)`: help: write one of (
 OF_ANOTHER = re.compile(r", which (?:is|are) not proved$")
 # What the prover says where a proof names what an edit took away: nothing of the contract.
 NAMES = re.compile(r"has no field|is not in scope|has no `|was not admitted")
-REFUSED, NOT_TRIED = "refused", "not tried"
+REFUSED, NOT_TRIED, PROVED, NAMED = "refused", "not tried", "still proved", "refused only because a proof names what it took away"
 # So many stand in one copy, at most: what a try that is cut off has not found is then not much.
 MOST = 24
 
@@ -110,20 +110,29 @@ class Trying:
                     break
         return found
 
-    def verdict(self, functions, reasons, status, output, alone):
-        """What a check says of the mistake in these functions; none where it is to be tried alone."""
+    def verdict(self, one, functions, reasons, status, output, alone):
+        """What a check says of the mistake, or right form, in these functions; none where it is to be tried alone."""
         goals = [name for name, is_goal in reasons.items() if is_goal]
         proved = [it.word for it in functions if not any(is_of(it, name) for name in goals)]
         if functions and not proved or alone and goals and len(functions) < 2:
             return REFUSED
+        if one in self.rights and functions and all(re.search(rf"^fn {it.name}: proved", output, re.M) for it in functions):
+            return PROVED
         if not alone:
             return None
         if goals:
             return f"not refused in {', '.join(proved)}"
         if reasons:
-            return "refused only because a proof names what it took away"
+            return NAMED
         last = (output.strip().splitlines() or ["it was ended"])[-1]
-        return "still proved" if status == 0 else f"no verdict: {last[:100]}"
+        return PROVED if status == 0 else f"no verdict: {last[:100]}"
+
+    def told(self, one):
+        """What was found of a mistake: its refusal says nothing where its right form is refused too."""
+        said, right = self.found[one.name], self.found[one.right.name] if one.right else PROVED
+        if said != REFUSED or right in (PROVED, NAMED):
+            return said
+        return right if right == NOT_TRIED else f"its right form is {right}"
 
     def all(self, mistakes):
         """What was found of each mistake, by name; none where the crate is not proved as it is."""
@@ -131,14 +140,15 @@ class Trying:
         if status:
             print(f"{self.crate} is not proved as it is:", *output.split("\n")[-8:], sep="\n")
             return None
-        pending, self.most = list(mistakes), MOST
+        self.rights = [one.right for one in mistakes if one.right]
+        pending, self.most = [*mistakes, *self.rights], MOST
         try:
             while pending:
                 pending = self.round(pending)
         except KeyboardInterrupt:
             self.is_cut = True
             self.found.update({one.name: NOT_TRIED for one in pending})
-        return self.found
+        return {one.name: self.told(one) for one in mistakes}
 
     def round(self, pending):
         """Tries as many of those that are left as can stand in one copy. Returns those that are left then."""
@@ -154,7 +164,7 @@ class Trying:
         elif status and not reasons and len(chosen) > 1:
             said, self.most = {}, len(chosen) // 2
         else:
-            said = {one.name: self.verdict(functions, reasons, status, output, alone) for one, functions in chosen}
+            said = {one.name: self.verdict(one, functions, reasons, status, output, alone) for one, functions in chosen}
         self.found.update(said)
         left = [one for one in pending if not said.get(one.name)]
         print(f"{self.crate}: {len(chosen)} in a copy, {len(pending) - len(left)} settled, {time.time() - begun:.0f} s", flush=True)
