@@ -12,6 +12,7 @@ Function = collections.namedtuple("Function", "file first last name word end of_
 SEEN_THROUGH = {"Debug", "Display", "Drop", "From", "Hash", "Iterator", "PartialEq", "PartialOrd"}
 WORDS = r"(?:pub(?:\([a-z ]+\))? )?(?:const )?(?:unsafe )?(?:extern \"C\" )?"
 FUNCTION = re.compile(rf"( *){WORDS}fn (\w+)")
+PARTS = re.compile(r"\b(?:if|match|matches|while|for|loop|return|break|continue)\b|\?|&&|\|\||=>")
 BLOCK = re.compile(rf"{WORDS}(impl|trait)\b(.*)")
 
 
@@ -75,6 +76,12 @@ def is_of(function, printed):
     """Whether a name that the prover prints is that of the function, or of a closure in it."""
     has_closure = "::fn::" in printed
     return bool(re.fullmatch(function.name + ("(?:::.*)?" if has_closure else ""), printed.replace("::fn::", "::")))
+
+
+def parts_a_path(mistake):
+    """Whether a mistake's new texts have more of some word that parts a path than its old ones."""
+    old, new = (collections.Counter(it for change in mistake.changes for it in PARTS.findall(change[form])) for form in (1, 2))
+    return bool(new - old)
 
 
 def changed_by(mistake, crate, text_of):
