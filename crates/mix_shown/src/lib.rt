@@ -1,8 +1,8 @@
-//! How a stranger's bytes are shown where a terminal may read them: no control character reaches it as it is.
+//! How a stranger's bytes are shown where a terminal may read them: whole characters that can do no harm, and a question mark for each other byte.
 #![tactic(auto)]
 
+mod character;
 mod shown;
-mod wanted;
 
+pub use character::{Among, add_shown};
 pub use shown::Shown;
-pub use wanted::{Among, Wanted, add_shown};
