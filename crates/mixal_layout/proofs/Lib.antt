@@ -1,9 +1,1 @@
-mod CutLemmas
-mod PartLemmas
-mod ReadLemmas
-mod PlacedLemmas
-mod OperandLemmas
-mod RestLemmas
-mod LineLemmas
-mod EndLemmas
-mod SourceLemmas
+mod AlikeLemmas

@@ -1,5 +1,5 @@
 -- What no layout alters: what a line says, and what is written in it.
-use Rattle.std.specs.Prelude.{◌≡◌, ℕ, List, [], ◌∷◌, filter}
+use Rattle.std.specs.Prelude.{◌≡◌, ℕ, Bool, true, false, List, [], ◌∷◌, filter}
 use Rattle.mixal_text.specs.Line.{line_of}
 use Rattle.mixal_text.specs.Words.{is_nonblank}
 
@@ -19,3 +19,8 @@ AllAlike [] [] = Unit {0}
 AllAlike [] (second ∷ more) = ⊥
 AllAlike (first ∷ rest) [] = ⊥
 AllAlike (first ∷ rest) (second ∷ more) = Alike first second × AllAlike rest more
+
+-- what a test that passes says
+abbrev pub IfTrue : Type 0 → Bool → Type 0
+IfTrue P true = P
+IfTrue P false = Unit {0}

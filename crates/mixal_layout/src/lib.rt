@@ -2,9 +2,9 @@
 //! their own, and the program as it was.
 #![tactic(auto)]
 
+mod alike;
 mod line;
-mod parts;
 mod source;
 
-pub use parts::after_blanks;
+pub use line::after_blanks;
 pub use source::lay_out;

@@ -1,124 +1,92 @@
 //! A line in columns.
-ghost use Rattle.std.specs.Prelude.{◌≡◌, ◌<◌, ◌≤◌, ◌+◌, ◌^◌, ◌++◌, [], IfOk, IfSome, OnOk, length, max, replicate};
-ghost use Rattle.std.specs.List.{list_any};
-ghost use Rattle.mixal_layout.specs.Parts.{body, operand_length};
-ghost use Rattle.mixal_layout.specs.Laid.{address_column, is_line_end, laid, laid_code, loc_and_op, op_column, placed, placed_by, reads_on, stays, with_part};
+ghost use Rattle.std.specs.Prelude.{◌≤◌, length};
 
-use crate::parts::{after_op, body, operand_length, part_of, remark_in};
-use mixal_text::{Line, Op, Part, Slip, Survey, read_line};
+use mix_lines::is_blank;
+use mixal_text::{Line, Op, Part, Slip, Survey, part_span, read_line};
 use std::alloc::{AllocError, Global};
+
+// Columns, counted from 0: OP is behind a blank at least, and ADDRESS five columns behind OP.
+const OP_COLUMN: usize = 8;
+
+const OP_LENGTH: usize = 5;
 
 const REMARK_COLUMN: usize = 26;
 
-/// A line without its line end, in columns.
-#[tactic(auto, using(crate::proofs::LineLemmas::fits), unfolding(crate::specs::Laid::laid))]
-pub(crate) fn laid(alloc: Global, text: &[u8]) -> Result<Vec<u8>, AllocError>
-    ensures { IfOk result (λ line. line.items ≡ laid text.now) }
-{
-    match read_line(text) {
-        Ok(Line::Code { op, address, .. }) => laid_code(alloc, op, address, text),
-        Ok(Line::Remark) | Err(_) => copied(alloc, text),
+/// A line without its line end, in columns. A remark and a line at fault stay as they are, and so does one of which a part
+/// may be meant to go on behind a blank, or that has a line end within it.
+pub(crate) fn laid(alloc: Global, text: &[u8]) -> Result<Vec<u8>, AllocError> {
+    if let Ok(Line::Code { op, address, .. }) = read_line(text) {
+        let line = placed(alloc, op, address, text)?;
+        let has_line_end = text.iter().any(|byte| *byte == b'\n' || *byte == b'\r');
+        if !has_line_end && !reads_on(text) && !reads_on(line.as_slice()) {
+            return Ok(line);
+        }
     }
+    Vec::from_slice(alloc, text)
 }
 
-fn laid_code(alloc: Global, op: Op, address: &[u8], text: &[u8]) -> Result<Vec<u8>, AllocError>
-    requires { IfSome (operand_length op address.now (body text.now)) (λ n. n ≤ length (body text.now)) }
-    ensures { IfOk result (λ line. line.items ≡ laid_code op address.now text.now) }
-{
-    let placed = placed(alloc, op, address, text)?;
-    if stays(text, placed.as_slice()) {
-        copied(alloc, text)
-    } else {
-        Ok(placed)
-    }
-}
-
-fn copied(alloc: Global, text: &[u8]) -> Result<Vec<u8>, AllocError>
-    ensures { IfOk result (λ line. line.items ≡ text.now) }
-{
-    let mut line = Vec::new(alloc);
-    line.extend_from_slice(text)?;
-    Ok(line)
-}
-
-fn stays(text: &[u8], new: &[u8]) -> bool
-    ensures { result ≡ stays text.now new.now }
-{
-    has_line_end(text) || reads_on(text) || reads_on(new)
-}
-
-fn has_line_end(text: &[u8]) -> bool
-    ensures { result ≡ list_any is_line_end text.now }
-{
-    text.iter().any(|byte| *byte == b'\n' || *byte == b'\r')
-}
-
-fn reads_on(text: &[u8]) -> bool
-    ensures { result ≡ reads_on text.now }
-{
+// Whether the remark reads as if it belonged to ADDRESS, as one reads that counts blanks.
+fn reads_on(text: &[u8]) -> bool {
     Survey::of(text).has(Slip::BlankInAddress)
 }
 
-#[tactic(auto, unfolding(crate::specs::Laid::placed))]
-fn placed(alloc: Global, op: Op, address: &[u8], text: &[u8]) -> Result<Vec<u8>, AllocError>
-    requires { IfSome (operand_length op address.now (body text.now)) (λ n. n ≤ length (body text.now)) }
-    ensures { IfOk result (λ line. line.items ≡ placed op address.now text.now) }
-{
-    let mut line = Vec::new(alloc);
-    add_loc_and_op(&mut line, text)?;
-    let body = body(text);
+fn placed(alloc: Global, op: Op, address: &[u8], text: &[u8]) -> Result<Vec<u8>, AllocError> {
+    let loc = part_span(text, Part::Label);
+    let name = part_span(text, Part::Operation);
+    let loc = &text[loc.from..loc.to];
+    let after_op = &text[name.to..];
+    let column = (loc.len() + 1).max(OP_COLUMN);
+    let mut line = Vec::from_slice(alloc, loc)?;
+    add_part(&mut line, column, &text[name.from..name.to])?;
+    let body = after_blanks(after_op);
     match operand_length(op, address, body) {
-        None => line.extend_from_slice(after_op(text))?,
-        Some(n) => {
-            add_part(
-                &mut line,
-                address_column(part_of(text, Part::Label)),
-                &body[..n],
-            )?;
-            add_part(&mut line, REMARK_COLUMN, remark_in(&body[n..]))?;
+        // The places of the characters of ALF without quotation marks count.
+        None => line.extend_from_slice(after_op)?,
+        Some(length) => {
+            let (operand, rest) = body.split_at(length.min(body.len()));
+            add_part(&mut line, column.saturating_add(OP_LENGTH), operand)?;
+            add_part(&mut line, REMARK_COLUMN, before_blanks(after_blanks(rest)))?;
         }
     }
     Ok(line)
 }
 
-fn add_loc_and_op(line: &mut Vec<u8>, text: &[u8]) -> Result<(), AllocError>
-    requires { line.old.items ≡ [] }
-    ensures { OnOk result (line.new.items ≡ loc_and_op text.now) }
-{
-    let loc = part_of(text, Part::Label);
-    line.extend_from_slice(loc)?;
-    add_part(line, op_column(loc), part_of(text, Part::Operation))
+// How many bytes behind OP are its operand: a quotation, or ADDRESS.
+fn operand_length(op: Op, address: &[u8], body: &[u8]) -> Option<usize> {
+    match (op, body) {
+        (Op::Alf(_), [b'"', rest @ ..]) => {
+            let end = rest.iter().position(|byte| *byte == b'"')?;
+            Some(end.saturating_add(2))
+        }
+        (Op::Alf(_), _) => None,
+        _ => Some(address.len()),
+    }
 }
 
-fn op_column(loc: &[u8]) -> usize
-    ensures is { result ≡ op_column loc.now }
-    ensures bound { result < 2 ^ 63 + 1 }
-{
-    (loc.len() + 1).max(8)
-}
-
-fn address_column(loc: &[u8]) -> usize
-    ensures { result ≡ address_column loc.now }
-{
-    op_column(loc) + 5
-}
-
-fn add_part(line: &mut Vec<u8>, column: usize, part: &[u8]) -> Result<(), AllocError>
-    ensures { OnOk result (line.new.items ≡ with_part column line.old.items part.now) }
-{
+// A part at a column, or one blank behind what stands before it. A part that is left out adds nothing.
+fn add_part(line: &mut Vec<u8>, column: usize, part: &[u8]) -> Result<(), AllocError> {
     if part.is_empty() {
         return Ok(());
     }
-    let gap = column.saturating_sub(line.len()).max(1);
-    add_blanks(line, gap)?;
+    for _ in 0..column.saturating_sub(line.len()).max(1) {
+        line.push(b' ')?;
+    }
     line.extend_from_slice(part)
 }
 
-fn add_blanks(line: &mut Vec<u8>, count: usize) -> Result<(), AllocError>
-    ensures { OnOk result (line.new.items ≡ line.old.items ++ replicate count 32) }
+/// What follows the blanks with which a text begins. It takes no memory.
+pub fn after_blanks(text: &[u8]) -> &[u8]
+    ensures { length result.now ≤ length text.now }
 {
-    for _i in 0..count {
-        line.push(b' ')?;
+    match text.iter().position(|byte| !is_blank(*byte)) {
+        Some(start) => &text[start..],
+        None => &[],
     }
-    Ok(())
+}
+
+fn before_blanks(text: &[u8]) -> &[u8] {
+    match text.iter().rposition(|byte| !is_blank(*byte)) {
+        Some(last) => &text[..last + 1],
+        None => &[],
+    }
 }
