@@ -1,7 +1,4 @@
 mod ArithmeticLemmas
 mod FormulaLemmas
 mod FoundLemmas
-mod ListedLemmas
-mod PiecesLemmas
-mod TableLemmas
 mod TextLemmas

@@ -1,12 +1,7 @@
-pub mod Analysis
 pub mod Arithmetic
 pub mod Formula
 pub mod Found
 pub mod Given
-pub mod Listed
 pub mod Names
-pub mod Pieces
 pub mod Rows
-pub mod Table
 pub mod Text
-pub mod Time

@@ -19,8 +19,3 @@ put_next names is_first goes word rest words text next whole words_are goes_is n
     let left = condition_words names goes rest in
     let here : spaced (put ++ left) ≡ spaced (condition_words names is_first words) = rw (words_are, goes_is) refl in
     ap (λ t. t ++ spaced left) next_is ∙ append_assoc text (spaced put) (spaced left) ∙ ap (λ t. text ++ t) (sym (spaced_append put left) ∙ here) ∙ so_far
-
--- a list of length 0
-pub nil-from_length : (xs : List ℕ) → true ≡ eqb (length xs) 0 → xs ≡ []
-nil-from_length [] e = refl
-nil-from_length (x ∷ xs) e = absurd (omega (arith, eqb-true (length (x ∷ xs)) 0 (sym e)))

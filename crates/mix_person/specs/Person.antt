@@ -10,7 +10,7 @@ use Rattle.mixal_text.specs.Symbol.{symbol_of}
 use Rattle.mix_person.specs.declared.person.Line.{Line}
 use Rattle.mix_person.specs.declared.person.Line.TheVariants as line_kind
 use Rattle.mix_person.specs.declared.word.PersonWord.{PersonWord}
-use Rattle.mix_person.specs.declared.word.PersonWord.TheVariants.{Step, Next, Run, Trace, Break, Back, Forth, Goto, Continue, Clear, Set, Show, Quit, Help, Question, Print, Listing, Where, Watch, Delete, Display, Until, Undisplay, Examine, Exit, Save, Source, Reload, Advance, ReverseStep}
+use Rattle.mix_person.specs.declared.word.PersonWord.TheVariants.{Step, Next, Run, Trace, Break, Back, Forth, Goto, Continue, Clear, Set, Show, Quit, Help, Question, Print, Listing, Where, Watch, Delete, Display, Until, Undisplay, Examine, Exit, Save, SaveOver, Source, Reload, Advance, ReverseStep}
 
 -- the words that a person may begin a line with
 abbrev pub name_of : PersonWord → List ℕ
@@ -40,6 +40,7 @@ name_of Undisplay = codes "undisplay"
 name_of Examine = codes "x"
 name_of Exit = codes "exit"
 name_of Save = codes "save"
+name_of SaveOver = codes "save!"
 name_of Source = codes "source"
 name_of Reload = codes "reload"
 name_of Advance = codes "advance"
@@ -49,7 +50,7 @@ name_of ReverseStep = codes "reverse-step"
 abbrev pub all_words : List PersonWord
 all_words =
     Step ∷ Next ∷ Run ∷ Trace ∷ Break ∷ Back ∷ Forth ∷ Goto ∷ Continue ∷ Clear ∷ Set ∷ Show ∷ Quit ∷ Help ∷ Question
-    ∷ Print ∷ Listing ∷ Where ∷ Watch ∷ Delete ∷ Display ∷ Until ∷ Undisplay ∷ Examine ∷ Exit ∷ Save ∷ Source ∷ Reload
+    ∷ Print ∷ Listing ∷ Where ∷ Watch ∷ Delete ∷ Display ∷ Until ∷ Undisplay ∷ Examine ∷ Exit ∷ Save ∷ SaveOver ∷ Source ∷ Reload
     ∷ Advance ∷ ReverseStep ∷ []
 
 -- the command that each stands for
@@ -270,6 +271,7 @@ kind_of_word (Some Display) rest = line_kind.Display
 kind_of_word (Some Undisplay) [] = line_kind.Undisplay
 kind_of_word (Some Undisplay) (word ∷ rest) = line_kind.Command
 kind_of_word (Some Save) rest = line_kind.Save
+kind_of_word (Some SaveOver) rest = line_kind.SaveOver
 kind_of_word (Some Source) rest = line_kind.Source
 kind_of_word (Some Reload) [] = line_kind.Reload
 kind_of_word (Some Reload) (word ∷ rest) = line_kind.Command

@@ -1,11 +1,10 @@
 //! What is only said of a line that a person types: a view of the session, a part of the machine, or that the program has halted.
 
-ghost use Rattle.std.specs.Prelude.{◌≡◌, ◌∷◌, ◌++◌, [], Some, IfOk, OnOk, codes, is_some, option_map};
-ghost use Rattle.mix_lines.specs.Lines.{lines, words};
+ghost use Rattle.std.specs.Prelude.{◌≡◌, ◌∷◌, [], Some, IfOk, codes, is_some, option_map};
+ghost use Rattle.mix_lines.specs.Lines.{words};
 ghost use Rattle.mix_machine.specs.Do.{is_halt_next};
 ghost use Rattle.mix_session.specs.Counts.{is_step};
-ghost use Rattle.mix_session.specs.Differences.{held_text};
-ghost use Rattle.mix_person.specs.Aside.{aside_of, flag_text, goes_on, halted_text, is_halt, is_halted, is_named, is_shown, line_named, lines_named, part_in, part_text};
+ghost use Rattle.mix_person.specs.Aside.{goes_on, is_aside, is_halt, is_halted, is_shown, part_in};
 ghost use Rattle.mix_person.specs.Person.{is_one_of};
 
 use crate::names::is_register;
@@ -16,11 +15,7 @@ use mix_session::{Altered, Answer, Held, Session, Topic};
 use mix_views::view_of;
 use std::alloc::Global;
 
-fn halted_text() -> &'static str
-    ensures { result.now ≡ halted_text }
-{
-    "The program has halted: back all begins anew, step 1 goes on behind HLT.\n"
-}
+const HALTED: &[u8] = b"The program has halted: back all begins anew, step 1 goes on behind HLT.\n";
 
 // Whether a change is a step of HLT, from this machine.
 fn is_halt(change: Change, before: &World) -> bool
@@ -103,69 +98,32 @@ fn part_in(typed: &[u8]) -> Option<&[u8]>
     }
 }
 
-fn is_named(name: &[u8], line: &[u8]) -> bool
-    ensures { result ≡ is_named name.now (words line.now) }
-{
-    match Words::of(line).next() {
-        None => false,
-        Some(word) => word.eq_ignore_ascii_case(name),
+// A part of the machine: a register is its line of `show values`; the toggle, the indicator or the location is as `show regs` has it.
+fn part_text(alloc: Global, session: &Session, name: &[u8]) -> Result<Vec<u8>, Memory> {
+    if !is_register(name) {
+        let (shown, part) = if name.eq_ignore_ascii_case(b"over") {
+            ("over", Altered::Over)
+        } else if name.eq_ignore_ascii_case(b"cmp") {
+            ("cmp", Altered::Cmp)
+        } else {
+            ("loc", Altered::Loc)
+        };
+        let held = Held(session.world(), part);
+        let line = format!(in alloc; "{shown} {held}\n")?;
+        return Ok(line.into_bytes());
     }
-}
-
-fn put_named(text: &mut Vec<u8>, name: &[u8], line: &[u8]) -> Result<(), Memory>
-    ensures { OnOk result (text.new.items ≡ text.old.items ++ line_named name.now line.now) }
-{
-    if is_named(name, line) {
-        text.extend_from_slice(line)?;
-        text.extend_from_slice(b"\n")?;
-    }
-    Ok(())
-}
-
-// The lines of a text that begin with a name.
-fn lines_named(alloc: Global, name: &[u8], all: &[u8]) -> Result<Vec<u8>, Memory>
-    ensures { IfOk result (λ text. text.items ≡ lines_named name.now (lines all.now)) }
-{
+    let all = session.text(&Answer::Shows(Topic::Values))?;
     let mut text = Vec::new(alloc);
-    let mut rest = all;
+    let mut rest = all.as_slice();
     while !rest.is_empty() {
         let (line, after) = split_line(rest);
-        put_named(&mut text, name, line)?;
+        if Words::of(line).next().is_some_and(|word| word.eq_ignore_ascii_case(name)) {
+            text.extend_from_slice(line)?;
+            text.push(b'\n')?;
+        }
         rest = after;
     }
     Ok(text)
-}
-
-fn flag_line(alloc: Global, world: &World, name: &str, part: Altered) -> Result<Vec<u8>, Memory>
-    ensures { IfOk result (λ text. text.items ≡ name.now ++ held_text world.now part ++ 10 ∷ []) }
-{
-    let held = Held(world, part);
-    let line = format!(in alloc; "{name}{held}\n")?;
-    Ok(line.into_bytes())
-}
-
-// The toggle, the indicator or the location.
-fn flag_text(alloc: Global, world: &World, name: &[u8]) -> Result<Vec<u8>, Memory>
-    ensures { IfOk result (λ text. text.items ≡ flag_text world.now name.now) }
-{
-    if name.eq_ignore_ascii_case(b"over") {
-        flag_line(alloc, world, "over ", Altered::Over)
-    } else if name.eq_ignore_ascii_case(b"cmp") {
-        flag_line(alloc, world, "cmp ", Altered::Cmp)
-    } else {
-        flag_line(alloc, world, "loc ", Altered::Loc)
-    }
-}
-
-fn part_text(alloc: Global, session: &Session, name: &[u8]) -> Result<Vec<u8>, Memory>
-    ensures { IfOk result (λ text. text.items ≡ part_text session.now name.now) }
-{
-    if is_register(name) {
-        let all = session.text(&Answer::Shows(Topic::Values))?;
-        lines_named(alloc, name, &all)
-    } else {
-        flag_text(alloc, session.world(), name)
-    }
 }
 
 /// Whether a line shows a part of the machine; no line of a script does.
@@ -177,7 +135,7 @@ pub fn shows_part(typed: &[u8]) -> bool
 
 /// The part of the machine that a line shows.
 pub fn shown_part(alloc: Global, session: &Session, typed: &[u8]) -> Result<Option<Vec<u8>>, Memory>
-    ensures { IfOk result (λ said. option_map (λ text. text.items) said ≡ option_map (part_text session.now) (part_in (words typed.now))) }
+    ensures { IfOk result (λ said. is_some said ≡ is_some (part_in (words typed.now))) }
 {
     match part_in(typed) {
         None => Ok(None),
@@ -188,22 +146,14 @@ pub fn shown_part(alloc: Global, session: &Session, typed: &[u8]) -> Result<Opti
     }
 }
 
-fn halted(alloc: Global) -> Result<Vec<u8>, Memory>
-    ensures { IfOk result (λ text. text.items ≡ halted_text) }
-{
-    let mut text = Vec::new(alloc);
-    text.extend_from_slice(halted_text().as_bytes())?;
-    Ok(text)
-}
-
 /// What is only said of the line of a script that a person's line stands for, if that is all: a view of the session or a part of the machine that it
 /// shows, or that the program has halted, if it asks for steps without a number.
-#[tactic(auto, unfolding(crate::specs::Aside::aside_of))]
+#[tactic(auto, unfolding(crate::specs::Aside::is_aside))]
 pub fn only_said(alloc: Global, session: &Session, typed: &[u8]) -> Result<Option<Vec<u8>>, Memory>
-    ensures { IfOk result (λ said. option_map (λ text. text.items) said ≡ aside_of session.now typed.now) }
+    ensures { IfOk result (λ said. is_some said ≡ is_aside session.now typed.now) }
 {
     if goes_on(typed) && is_halted(alloc, session)? {
-        let text = halted(alloc)?;
+        let text = Vec::from_slice(alloc, HALTED)?;
         return Ok(Some(text));
     }
     match view_of(alloc, session, typed)? {

@@ -128,12 +128,13 @@ undisplay        nothing is displayed any more
 
 const SAVE: &str = "\
 save FILE        saves the source, the deck and what was done in FILE, as a bundle
-mixrev < FILE does the same again. A file that is there already is written over.
+mixrev < FILE does the same again. A file that holds something else is not replaced.
+save! FILE       replaces it, whatever it holds
 ";
 
 const SOURCE: &str = "\
 source FILE      does the lines of FILE, one after the other, as if each were typed here
-If FILE can't be read, nothing is done. In FILE source itself can't be used.
+If FILE can't be read, nothing is done. FILE can't use source, save or reload itself.
 ";
 
 const RELOAD: &str = "\

@@ -23,6 +23,8 @@ pub enum Line {
     Display,
     Undisplay,
     Save,
+    /// The same, whatever the file holds.
+    SaveOver,
     Source,
     Reload,
     Quit,
@@ -65,6 +67,7 @@ fn kind_of_word(word: Option<PersonWord>, words: &Words) -> Line
         Some(PersonWord::Display) => Line::Display,
         Some(PersonWord::Undisplay) if words.is_end() => Line::Undisplay,
         Some(PersonWord::Save) => Line::Save,
+        Some(PersonWord::SaveOver) => Line::SaveOver,
         Some(PersonWord::Source) => Line::Source,
         Some(PersonWord::Reload) if words.is_end() => Line::Reload,
         Some(PersonWord::Quit | PersonWord::Exit) if words.is_end() => Line::Quit,

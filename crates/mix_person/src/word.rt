@@ -32,6 +32,7 @@ pub(crate) enum PersonWord {
     Examine,
     Exit,
     Save,
+    SaveOver,
     Source,
     Reload,
     Advance,
@@ -48,7 +49,8 @@ fn all_words() -> &'static [PersonWord]
         PersonWord::Goto, PersonWord::Continue, PersonWord::Clear, PersonWord::Set, PersonWord::Show, PersonWord::Quit, PersonWord::Help,
         PersonWord::Question, PersonWord::Print, PersonWord::Listing, PersonWord::Where, PersonWord::Watch,
         PersonWord::Delete, PersonWord::Display, PersonWord::Until, PersonWord::Undisplay, PersonWord::Examine, PersonWord::Exit,
-        PersonWord::Save, PersonWord::Source, PersonWord::Reload, PersonWord::Advance, PersonWord::ReverseStep,
+        PersonWord::Save, PersonWord::SaveOver, PersonWord::Source, PersonWord::Reload, PersonWord::Advance,
+        PersonWord::ReverseStep,
     ]
 }
 
@@ -83,6 +85,7 @@ impl PersonWord {
             PersonWord::Examine => "x",
             PersonWord::Exit => "exit",
             PersonWord::Save => "save",
+            PersonWord::SaveOver => "save!",
             PersonWord::Source => "source",
             PersonWord::Reload => "reload",
             PersonWord::Advance => "advance",

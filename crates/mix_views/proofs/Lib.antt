@@ -1,2 +1,1 @@
 mod AnalysisLemmas
-mod MapLemmas

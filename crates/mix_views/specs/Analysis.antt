@@ -1,7 +1,6 @@
 -- What `show analysis` says: the counts of the book, which stand in brackets in the lines of the source, beside those that are measured.
 use Rattle.std.specs.Prelude.{ℕ, zero, suc, ◌&&◌, Bool, List, [], ◌∷◌, ◌++◌, is_some, Option, None, Some, option_and_then, if◌then◌else◌}
 use Rattle.std.specs.Option.{option_map}
-use Rattle.mix_formula.specs.Analysis.{analysis_text}
 use Rattle.mix_formula.specs.Given.{given_of}
 use Rattle.mix_formula.specs.Names.{NameValue}
 use Rattle.mix_formula.specs.Rows.{RowValue}
@@ -47,6 +46,3 @@ rows_below program tally (suc n) = rows_below program tally n ++ row_at (tally n
 -- those of all cells, by the changes done
 unfoldable pub rows_in : SessionState → List RowValue
 rows_in s = rows_below s.program (tally_at s.timeline) 4000
-
-abbrev pub analysis_view : SessionState → List (List ℕ) → Option (List ℕ)
-analysis_view s words = option_map (analysis_text (rows_in s)) (given_in words)

@@ -1,3 +1,2 @@
 pub mod Analysis
-pub mod Map
 pub mod View

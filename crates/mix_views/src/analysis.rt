@@ -1,13 +1,13 @@
 //! What `show analysis` says: the counts of the book, which stand in brackets in the lines of the source, beside those that are measured.
 
-ghost use Rattle.std.specs.Prelude.{◌≡◌, ◌<◌, ◌≤◌, ◌++◌, if◌then◌else◌, None, IfOk, OnOk, Some, is_some, map, option_map};
+ghost use Rattle.std.specs.Prelude.{◌≡◌, ◌<◌, ◌≤◌, ◌++◌, if◌then◌else◌, None, IfOk, OnOk, Some, is_some, map};
 ghost use Rattle.mix_formula.specs.Names.{all_named};
 ghost use Rattle.mix_formula.specs.Rows.{all_rows};
 ghost use Rattle.mix_formula.specs.Text.{bracket_of};
 ghost use Rattle.mixal_asm.specs.Row.{source_value};
 ghost use Rattle.mixal_asm.specs.Source.{source_at};
 ghost use Rattle.mix_session.specs.Tally.{tally_in};
-ghost use Rattle.mix_views.specs.Analysis.{analysis_view, given_in, given_onto, row_at, row_if, row_of, rows_below, rows_in};
+ghost use Rattle.mix_views.specs.Analysis.{given_in, given_onto, row_at, row_if, row_of, rows_below, rows_in};
 
 use mix_formula::{Named, Row, analysis_text, bracket_of, given_of};
 use mix_lines::Words;
@@ -24,7 +24,7 @@ pub(crate) fn analysis_view(
     session: &Session,
     words: &mut Words,
 ) -> Result<Option<Vec<u8>>, Memory>
-    ensures { IfOk result (λ said. option_map (λ text. text.items) said ≡ analysis_view session.now words.old) }
+    ensures { IfOk result (λ said. is_some said ≡ is_some (given_in words.old)) }
 {
     let mut given = Vec::new(alloc);
     if !add_given(words, &mut given)? {

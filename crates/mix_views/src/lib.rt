@@ -4,9 +4,9 @@
 mod analysis;
 mod map;
 
-ghost use Rattle.std.specs.Prelude.{◌≡◌, IfOk, option_map};
+ghost use Rattle.std.specs.Prelude.{◌≡◌, IfOk, is_some};
 ghost use Rattle.mix_lines.specs.Lines.{words};
-ghost use Rattle.mix_views.specs.View.{nodes_view, passages_view, view_in, view_named};
+ghost use Rattle.mix_views.specs.View.{is_view, is_view_named};
 
 use crate::analysis::analysis_view;
 use crate::map::map_text;
@@ -21,9 +21,9 @@ use std::alloc::Global;
 
 /// What a line `show nodes ..`, `show passages ..`, `show analysis ..` or `show map` says (2.2.3, 1.2.1, 1.3.2); none for any other line, and for one
 /// whose words say nothing. Only out of memory refuses it.
-#[tactic(auto, unfolding(crate::specs::View::view_in))]
+#[tactic(auto, unfolding(crate::specs::View::is_view))]
 pub fn view_of(alloc: Global, session: &Session, typed: &[u8]) -> Result<Option<Vec<u8>>, Memory>
-    ensures { IfOk result (λ said. option_map (λ text. text.items) said ≡ view_in session.now (words typed.now)) }
+    ensures { IfOk result (λ said. is_some said ≡ is_view session.now (words typed.now)) }
 {
     let Some((command, rest)) = next_word(typed) else {
         return Ok(None);
@@ -44,49 +44,26 @@ fn view_named(
     name: &[u8],
     rest: &[u8],
 ) -> Result<Option<Vec<u8>>, Memory>
-    ensures { IfOk result (λ said. option_map (λ text. text.items) said ≡ view_named session.now name.now (words rest.now)) }
+    ensures { IfOk result (λ said. is_some said ≡ is_view_named session.now name.now (words rest.now)) }
 {
     let mut words = Words::of(rest);
     if name.eq_ignore_ascii_case(b"nodes") {
-        nodes_view(alloc, session, &mut words)
+        let world = session.world();
+        let here = Word::of(Sign::Plus, u32::from(world.loc()));
+        match read_shape(alloc, &mut words, session.program(), here)? {
+            None => Ok(None),
+            Some(shape) => Ok(Some(nodes_text(alloc, world, &shape)?)),
+        }
     } else if name.eq_ignore_ascii_case(b"passages") {
-        passages_view(alloc, session, rest)
+        match read_passages(alloc, session, rest)? {
+            None => Ok(None),
+            Some(asked) => Ok(Some(passages_text(alloc, session, &asked)?)),
+        }
     } else if name.eq_ignore_ascii_case(b"analysis") {
         analysis_view(alloc, session, &mut words)
     } else if name.eq_ignore_ascii_case(b"map") && words.is_end() {
-        let text = map_text(alloc, session)?;
-        Ok(Some(text))
+        Ok(Some(map_text(alloc, session)?))
     } else {
         Ok(None)
-    }
-}
-
-fn nodes_view(
-    alloc: Global,
-    session: &Session,
-    words: &mut Words,
-) -> Result<Option<Vec<u8>>, Memory>
-    ensures { IfOk result (λ said. option_map (λ text. text.items) said ≡ nodes_view session.now words.old) }
-{
-    let world = session.world();
-    let here = Word::of(Sign::Plus, u32::from(world.loc()));
-    match read_shape(alloc, words, session.program(), here)? {
-        None => Ok(None),
-        Some(shape) => {
-            let text = nodes_text(alloc, world, &shape)?;
-            Ok(Some(text))
-        }
-    }
-}
-
-fn passages_view(alloc: Global, session: &Session, rest: &[u8]) -> Result<Option<Vec<u8>>, Memory>
-    ensures { IfOk result (λ said. option_map (λ text. text.items) said ≡ passages_view session.now (words rest.now)) }
-{
-    match read_passages(alloc, session, rest)? {
-        None => Ok(None),
-        Some(asked) => {
-            let text = passages_text(alloc, session, &asked)?;
-            Ok(Some(text))
-        }
     }
 }
