@@ -1,14 +1,1 @@
-pub mod Binary
-pub mod Checked
-pub mod Dialect
-pub mod Foreign
-pub mod Halt
-pub mod Help
-pub mod Json
-pub mod Later
-pub mod Mark
-pub mod Missing
-pub mod Near
-pub mod Place
-pub mod Remedy
 pub mod Report

@@ -2,7 +2,6 @@
 //! and a mark; or as one JSON object a line.
 #![tactic(auto)]
 
-mod binary;
 mod checked;
 mod dialect;
 mod foreign;
@@ -12,7 +11,6 @@ mod later;
 mod mark;
 mod missing;
 mod near;
-mod objects;
 mod remedy;
 mod report;
 mod values;
@@ -20,6 +18,5 @@ mod values;
 pub use checked::{Checked, bytes_at};
 pub use halt::{no_halt, no_halt_text};
 pub use near::{is_near, near_to};
-pub use objects::add_json_report;
-pub use report::add_report;
+pub use report::{add_json_report, add_report};
 pub use values::{code, severity};

@@ -1,78 +1,88 @@
-//! What there is to say of a source, as a compiler reports it.
+//! What there is to say of a source, as a compiler reports it, or as one JSON object a line.
 
-ghost use Rattle.std.specs.Prelude.{◌≡◌, ◌≤◌, [], ◌++◌, IfOk, IfSome, OnOk, length, not, option_map};
+ghost use Rattle.std.specs.Prelude.{◌≡◌, IfOk, OnOk, false, not, string_bytes, true};
 ghost use Rattle.std.specs.List.{list_any};
 ghost use Rattle.mixal_asm.specs.Diagnose.{is_warning};
-ghost use Rattle.mixal_asm.specs.declared.diagnostic.Finding.TheVariants.{Warning as AWarning};
-ghost use Rattle.mix_check.specs.Report.{column_text, diagnostic_text, diagnostics_text, error_text, finding_text, has_faults, headline, place_text, report, with_shown};
+ghost use Rattle.mix_check.specs.Report.{Adds, Report, Says, SaysAll, has_faults, place_of};
 
-use crate::binary::{add_binary_line, is_binary};
 use crate::checked::{Checked, before};
 use crate::help::help_of;
 use crate::mark::{add_marked, column_after};
+use crate::values::{code, columns_of, meaning_with, severity};
+use json::Writer;
 use mix_refused::Memory;
-use mixal_asm::{AsmKind, Diagnostic, Finding, Warning, diagnose};
-use mixal_text::Span;
-use std::alloc::Global;
+use mixal_asm::{Diagnostic, Finding, diagnose};
+use std::alloc::{AllocError, Global};
+
+/// How a binary of MDK's assembler, mixasm, begins: the number BEEFDEAD in four bytes, the last one first.
+const BINARY: &[u8] = &[0xAD, 0xDE, 0xEF, 0xBE];
 
 /// Appends what there is to say of a source to a text, and says whether it has a fault: of each fault `FILE:LINE:COLUMN: error: A7
 /// undefined symbol`, of each warning `FILE:LINE:COLUMN: warning: X is defined nowhere: .. [undefined-symbol]`, the line, and a mark
 /// under what that is about (1.3.2). Columns count characters, from 1. A fault that is about no part of a line, as A13, has
 /// neither a column nor the line. Control characters of the source are shown as question marks. Of a binary of mixasm it is said that
 /// it is one.
-#[tactic(auto, unfolding(crate::specs::Report::report))]
 pub fn add_report(
     alloc: Global,
     name: &str,
     source: &[u8],
     text: &mut Vec<u8>,
 ) -> Result<bool, Memory>
-    ensures report { OnOk result (text.new.items ≡ text.old.items ++ report name.now source.now) }
+    ensures report { OnOk result (Adds (Report false name.now source.now) text.old.items text.new.items) }
     ensures faulty { IfOk result (λ faulty. faulty ≡ has_faults source.now) }
 {
     let diagnostics = diagnose(alloc, source)?;
-    if is_binary(source) {
-        add_binary_line(name, text)?;
+    let told = if source.starts_with(BINARY) {
+        let line = format!(in alloc; "{name}: error: this is a binary of mixasm, not a source\n")?;
+        Vec::from_slice(alloc, line.as_bytes())?
     } else {
-        add_diagnostics(alloc, name, source, &diagnostics, text)?;
-    }
+        told(alloc, name, source, &diagnostics, false)?
+    };
+    text.extend_from_slice(told.as_slice())?;
     Ok(has_fault(&diagnostics))
 }
 
-// Appends the diagnostics of a source, one after the other.
-fn add_diagnostics(
+/// Appends what there is to say of a source to a text as `add_report` does, but as JSON, and says whether it has a fault: of each
+/// fault and of each warning one object a line, with its file, its line, the column of its first byte and that of what follows its
+/// last byte, its severity, its number or name, and its text (1.3.2). A fault that is about no part of a line, as A13, has no columns.
+pub fn add_json_report(
+    alloc: Global,
+    name: &str,
+    source: &[u8],
+    text: &mut Vec<u8>,
+) -> Result<bool, Memory>
+    ensures report { OnOk result (Adds (Report true name.now source.now) text.old.items text.new.items) }
+    ensures faulty { IfOk result (λ faulty. faulty ≡ has_faults source.now) }
+{
+    let diagnostics = diagnose(alloc, source)?;
+    let told = told(alloc, name, source, &diagnostics, true)?;
+    text.extend_from_slice(told.as_slice())?;
+    Ok(has_fault(&diagnostics))
+}
+
+// What is said of some diagnostics, one after the other.
+fn told(
     alloc: Global,
     name: &str,
     source: &[u8],
     diagnostics: &[Diagnostic],
-    text: &mut Vec<u8>,
-) -> Result<(), Memory>
-    ensures { OnOk result (text.new.items ≡ text.old.items ++ diagnostics_text name.now source.now diagnostics.now) }
+    json: bool,
+) -> Result<Vec<u8>, Memory>
+    ensures { IfOk result (λ told. SaysAll json name.now diagnostics.now told.items) }
 {
     let mut checked = Checked::of(alloc, source)?;
+    let mut text = Vec::new(alloc);
     let mut rest = diagnostics;
     while let [diagnostic, more @ ..] = rest {
-        add_diagnostic(alloc, name, &mut checked, diagnostic, text)?;
+        let one = if json {
+            object_of(alloc, name, &mut checked, diagnostic)?
+        } else {
+            lines_of(alloc, name, &mut checked, diagnostic)?
+        };
+        text.extend_from_slice(one.as_slice())?;
         rest = more;
     }
-    Ok(())
-}
-
-// Appends a diagnostic of a source.
-#[tactic(auto, unfolding(crate::specs::Report::diagnostic_text))]
-fn add_diagnostic(
-    alloc: Global,
-    name: &str,
-    source: &mut Checked<'_>,
-    diagnostic: &Diagnostic,
-    text: &mut Vec<u8>,
-) -> Result<(), Memory>
-    ensures text { OnOk result (text.new.items ≡ text.old.items ++ diagnostic_text name.now source.old diagnostic.now) }
-    ensures same { source.new ≡ source.old }
-{
-    let place = source.shown(diagnostic);
-    let help = help_of(alloc, source, diagnostic, place)?;
-    add_with_shown(alloc, name, diagnostic, place, help.as_slice(), text)
+    Ok(text)
 }
 
 /// Whether one of some diagnostics is a fault.
@@ -82,108 +92,100 @@ pub(crate) fn has_fault(diagnostics: &[Diagnostic]) -> bool
     diagnostics.iter().any(|diagnostic| matches!(diagnostic.finding, Finding::Fault(_)))
 }
 
-// The same, by what is shown of its line and what helps to mend it.
-fn add_with_shown(
+// Where a diagnostic is, what it says, the line, and a mark below it.
+fn lines_of(
     alloc: Global,
     name: &str,
+    source: &mut Checked<'_>,
     diagnostic: &Diagnostic,
-    place: Option<(&[u8], Span)>,
-    help: &[u8],
-    text: &mut Vec<u8>,
-) -> Result<(), Memory>
-    requires bound { IfSome place (λ p. length p.0.now ≤ 1048576) }
-    ensures { OnOk result (text.new.items ≡ text.old.items ++ with_shown name.now diagnostic.now help.now (option_map (λ p. (p.0.now, p.1)) place.entry)) }
+) -> Result<Vec<u8>, Memory>
+    ensures { IfOk result (λ lines. Says false name.now diagnostic.now lines.items) }
 {
-    match place {
-        Some((line, span)) => {
-            let column = column_after(before(line, span.from));
-            add_headline(alloc, name, diagnostic, Some(column), help, text)?;
-            add_marked(text, line, span)?;
-            Ok(())
-        }
-        None => add_headline(alloc, name, diagnostic, None, help, text),
-    }
+    let after = after_place(alloc, source, diagnostic)?;
+    let place = place_of(alloc, name, diagnostic.line)?;
+    let mut lines = Vec::from_slice(alloc, place.as_bytes())?;
+    lines.extend_from_slice(after.as_slice())?;
+    Ok(lines)
 }
 
-fn add_headline(
+#[tactic(auto, using(std::proofs::Common::append_assoc), unfolding(crate::specs::Report::place_of))]
+fn place_of(alloc: Global, name: &str, line: u32) -> Result<String, AllocError>
+    ensures { IfOk result (λ s. string_bytes s ≡ place_of name.now line) }
+{
+    let place = format!(in alloc; "{name}:{line}:")?;
+    Ok(place)
+}
+
+// What follows the number of its line.
+fn after_place(
     alloc: Global,
-    name: &str,
+    source: &mut Checked<'_>,
     diagnostic: &Diagnostic,
-    column: Option<u64>,
-    help: &[u8],
-    text: &mut Vec<u8>,
-) -> Result<(), Memory>
-    ensures { OnOk result (text.new.items ≡ text.old.items ++ headline name.now diagnostic.now column help.now) }
-{
-    add_place(alloc, name, diagnostic.line, column, text)?;
-    text.extend_from_slice(b": ")?;
-    add_finding(alloc, &diagnostic.finding, help, text)?;
-    text.push(b'\n')?;
-    Ok(())
-}
-
-fn add_place(
-    alloc: Global,
-    name: &str,
-    line: u32,
-    column: Option<u64>,
-    text: &mut Vec<u8>,
-) -> Result<(), Memory>
-    ensures { OnOk result (text.new.items ≡ text.old.items ++ place_text name.now line column) }
-{
-    let place = format!(in alloc; "{name}:{line}")?;
-    text.extend_from_slice(place.as_bytes())?;
-    add_column(alloc, column, text)
-}
-
-fn add_column(alloc: Global, column: Option<u64>, text: &mut Vec<u8>) -> Result<(), Memory>
-    ensures { OnOk result (text.new.items ≡ text.old.items ++ column_text column) }
-{
-    match column {
-        Some(column) => {
-            let number = format!(in alloc; ":{column}")?;
-            text.extend_from_slice(number.as_bytes())?;
-            Ok(())
-        }
-        None => Ok(()),
+) -> Result<Vec<u8>, Memory> {
+    let place = source.shown(diagnostic);
+    let mut text = Vec::new(alloc);
+    if let Some((line, span)) = place {
+        let column = column_after(before(line, span.from));
+        let column = format!(in alloc; "{column}:")?;
+        text.extend_from_slice(column.as_bytes())?;
     }
-}
-
-fn add_finding(
-    alloc: Global,
-    finding: &Finding,
-    help: &[u8],
-    text: &mut Vec<u8>,
-) -> Result<(), Memory>
-    ensures { OnOk result (text.new.items ≡ text.old.items ++ finding_text finding.now help.now) }
-{
-    match finding {
+    match &diagnostic.finding {
         Finding::Fault(kind) => {
-            add_error(alloc, *kind, text)?;
-            text.extend_from_slice(help)?;
-            Ok(())
+            let kind = *kind;
+            let fault = format!(in alloc; " error: {kind}")?;
+            text.extend_from_slice(fault.as_bytes())?;
+            let help = help_of(alloc, source, diagnostic, place)?;
+            text.extend_from_slice(help.as_slice())?;
         }
-        Finding::Warning(warning) => add_warning(warning, text),
+        Finding::Warning(warning) => {
+            text.extend_from_slice(b" warning: ")?;
+            text.extend_from_slice(warning.subject())?;
+            text.extend_from_slice(warning.text().as_bytes())?;
+            text.extend_from_slice(b" [")?;
+            text.extend_from_slice(warning.name().as_bytes())?;
+            text.push(b']')?;
+        }
     }
+    text.push(b'\n')?;
+    if let Some((line, span)) = place {
+        add_marked(&mut text, line, span)?;
+    }
+    Ok(text)
 }
 
-#[tactic(auto, unfolding(crate::specs::Report::error_text))]
-fn add_error(alloc: Global, kind: AsmKind, text: &mut Vec<u8>) -> Result<(), Memory>
-    ensures { OnOk result (text.new.items ≡ text.old.items ++ error_text kind) }
+// A diagnostic as an object, and a line feed.
+fn object_of(
+    alloc: Global,
+    name: &str,
+    source: &mut Checked<'_>,
+    diagnostic: &Diagnostic,
+) -> Result<Vec<u8>, Memory>
+    ensures { IfOk result (λ line. Says true name.now diagnostic.now line.items) }
 {
-    let fault = format!(in alloc; "error: {kind}")?;
-    text.extend_from_slice(fault.as_bytes())?;
-    Ok(())
-}
-
-fn add_warning(warning: &Warning, text: &mut Vec<u8>) -> Result<(), Memory>
-    ensures { OnOk result (text.new.items ≡ text.old.items ++ finding_text (AWarning warning.now) []) }
-{
-    text.extend_from_slice(b"warning: ")?;
-    text.extend_from_slice(warning.subject())?;
-    text.extend_from_slice(warning.text().as_bytes())?;
-    text.extend_from_slice(b" [")?;
-    text.extend_from_slice(warning.name().as_bytes())?;
-    text.push(b']')?;
-    Ok(())
+    let place = source.shown(diagnostic);
+    let help = help_of(alloc, source, diagnostic, place)?;
+    let finding = &diagnostic.finding;
+    let (code, meaning) = (code(alloc, finding)?, meaning_with(alloc, finding, &help)?);
+    let mut writer = Writer::new(Vec::new(alloc));
+    writer.begin_object()?;
+    writer.key("file")?;
+    writer.string(name)?;
+    writer.key("line")?;
+    writer.u64(u64::from(diagnostic.line))?;
+    if let Some((from, to)) = columns_of(place) {
+        writer.key("column")?;
+        writer.u64(from)?;
+        writer.key("endColumn")?;
+        writer.u64(to)?;
+    }
+    writer.key("severity")?;
+    writer.string(severity(finding))?;
+    writer.key("code")?;
+    writer.string(code.as_str())?;
+    writer.key("text")?;
+    writer.string(meaning.as_str())?;
+    writer.end_object()?;
+    let mut line = writer.into_inner();
+    line.push(b'\n')?;
+    Ok(line)
 }

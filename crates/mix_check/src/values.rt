@@ -1,10 +1,5 @@
 //! What a diagnostic is, as values: its columns, its severity, its number or name, and its text.
 
-ghost use Rattle.std.specs.Prelude.{◌≡◌, ◌≤◌, ◌++◌, IfOk, IfSome, length, option_map, string_bytes};
-ghost use Rattle.std.specs.Str.Lossy.{utf8_lossy};
-ghost use Rattle.mix_check.specs.Json.{code, columns_of, meaning, meaning_of, severity};
-ghost use Rattle.mix_check.specs.Place.{shown_of};
-
 use crate::checked::{Checked, before};
 use crate::help::help_of;
 use crate::mark::column_after;
@@ -16,18 +11,12 @@ use std::alloc::{AllocError, Global};
 impl<'s> Checked<'s> {
     /// The column of the first byte that a diagnostic is about, and that of what follows the last one, counted in characters from 1;
     /// none where it is about no part of a line, as A13.
-    pub fn columns(&mut self, diagnostic: &Diagnostic) -> Option<(u64, u64)>
-        ensures is { result ≡ option_map columns_of (shown_of self.old diagnostic.now) }
-        ensures same { self.new ≡ self.old }
-    {
+    pub fn columns(&mut self, diagnostic: &Diagnostic) -> Option<(u64, u64)> {
         columns_of(self.shown(diagnostic))
     }
 
     /// The text of a diagnostic, with what helps to mend it, as characters.
-    pub fn meaning(&mut self, alloc: Global, diagnostic: &Diagnostic) -> Result<String, Memory>
-        ensures is { IfOk result (λ s. string_bytes s ≡ meaning_of self.old diagnostic.now) }
-        ensures same { self.new ≡ self.old }
-    {
+    pub fn meaning(&mut self, alloc: Global, diagnostic: &Diagnostic) -> Result<String, Memory> {
         let place = self.shown(diagnostic);
         let help = help_of(alloc, self, diagnostic, place)?;
         Ok(meaning_with(alloc, &diagnostic.finding, help.as_slice())?)
@@ -35,10 +24,7 @@ impl<'s> Checked<'s> {
 }
 
 /// The columns of what is shown of a line.
-pub(crate) fn columns_of(place: Option<(&[u8], Span)>) -> Option<(u64, u64)>
-    requires { IfSome place (λ p. length p.0.now ≤ 1048576) }
-    ensures { result ≡ option_map columns_of (option_map (λ p. (p.0.now, p.1)) place.entry) }
-{
+pub(crate) fn columns_of(place: Option<(&[u8], Span)>) -> Option<(u64, u64)> {
     match place {
         Some((line, span)) => Some((
             column_after(before(line, span.from)),
@@ -49,9 +35,7 @@ pub(crate) fn columns_of(place: Option<(&[u8], Span)>) -> Option<(u64, u64)>
 }
 
 /// `error` for a fault, `warning` for a warning.
-pub fn severity(finding: &Finding) -> &'static str
-    ensures { result.now ≡ severity finding.now }
-{
+pub fn severity(finding: &Finding) -> &'static str {
     match finding {
         Finding::Fault(_) => "error",
         Finding::Warning(_) => "warning",
@@ -59,9 +43,7 @@ pub fn severity(finding: &Finding) -> &'static str
 }
 
 /// The number of a fault with its letter, as `A7`, or the name of a warning, as `undefined-symbol`.
-pub fn code(alloc: Global, finding: &Finding) -> Result<String, AllocError>
-    ensures { IfOk result (λ s. string_bytes s ≡ code finding.now) }
-{
+pub fn code(alloc: Global, finding: &Finding) -> Result<String, AllocError> {
     match finding {
         Finding::Fault(kind) => format!(in alloc; "A{}", kind.number()),
         Finding::Warning(warning) => String::from_str(alloc, warning.name()),
@@ -73,9 +55,7 @@ pub(crate) fn meaning_with(
     alloc: Global,
     finding: &Finding,
     help: &[u8],
-) -> Result<String, AllocError>
-    ensures { IfOk result (λ s. string_bytes s ≡ meaning finding.now help.now) }
-{
+) -> Result<String, AllocError> {
     match finding {
         Finding::Fault(kind) => joined(alloc, kind.text().as_bytes(), help),
         Finding::Warning(warning) => joined(alloc, warning.subject(), warning.text().as_bytes()),
@@ -83,9 +63,7 @@ pub(crate) fn meaning_with(
 }
 
 // Two parts of a text as characters.
-fn joined(alloc: Global, first: &[u8], second: &[u8]) -> Result<String, AllocError>
-    ensures { IfOk result (λ s. string_bytes s ≡ utf8_lossy (first.now ++ second.now)) }
-{
+fn joined(alloc: Global, first: &[u8], second: &[u8]) -> Result<String, AllocError> {
     let mut bytes = Vec::new(alloc);
     bytes.extend_from_slice(first)?;
     bytes.extend_from_slice(second)?;
