@@ -1,7 +1,3 @@
-mod ItemLemmas
 mod MessageLemmas
-mod PairLemmas
-mod PlaceLemmas
-mod ResponseLemmas
 mod ServedLemmas
 mod TokenLemmas

@@ -1,13 +1,24 @@
--- The tokens of a text, line by line.
-use Rattle.std.proofs.Common.{◌≡◌, ℕ, ◌==◌, true, List, ◌++◌, length, sym, ap, ◌∙◌}
-use Rattle.std.proofs.lemmas.List.{append-nil}
-use Rattle.mix_lines.specs.Lines.{lines}
-use Rattle.mix_lsp.specs.Tokens.{tokens_from}
+-- One token more.
+use Rattle.std.proofs.Common.{◌≡◌, true, List, [], ◌∷◌, ◌++◌, Option, None, Some, refl, subst, sym}
+use Rattle.mix_lsp.specs.Tokens.{AreInOrder, Ends, is_behind, last_of}
 use Rattle.mix_lsp.specs.declared.tokens.Token.{Token}
-use Rattle.mix_lsp.proofs.PlaceLemmas.{no_lines}
 
--- behind the last line there is none
-pub no_more_tokens : (n : ℕ) (list : List Token) (rest : List ℕ) (all : List Token) → true ≡ (length rest == 0) → list ++ tokens_from n (lines rest) ≡ all
-    → list ≡ all
-no_more_tokens n list rest all empty before =
-    sym (append-nil list) ∙ ap (λ (ls : List (List ℕ)). list ++ tokens_from n ls) (sym (no_lines rest empty)) ∙ before
+order-append : (last : Option Token) (ts : List Token) (t : Token) → AreInOrder last ts → is_behind (last_of last ts) t ≡ true
+    → AreInOrder last (ts ++ t ∷ [])
+order-append last [] t order behind = (behind, tt)
+order-append last (x ∷ ts) t order behind = (order.0, order-append (Some x) ts t order.1 behind)
+
+last-append : (last : Option Token) (ts : List Token) (t : Token) → last_of last (ts ++ t ∷ []) ≡ Some t
+last-append last [] t = refl
+last-append last (x ∷ ts) t = last-append (Some x) ts t
+
+pub one_more : (ts : List Token) (last : Option Token) (t : Token) → Ends ts last → is_behind last t ≡ true → Ends (ts ++ t ∷ []) (Some t)
+one_more ts last t ends behind = record {
+  order = order-append None ts t ends.order (subst (λ l. is_behind l t ≡ true) (sym ends.ends) behind);
+  ends = last-append None ts t;
+}
+
+pub none_yet : Ends [] None
+none_yet = record { order = tt; ends = refl }
+
+pub ruleset adding = (one_more, none_yet)

@@ -1,18 +1,17 @@
 //! Where bytes of lines of MIXAL stand in a text, as the protocol has it.
 
-ghost use Rattle.std.specs.Prelude.{◌≡◌, ◌≤◌, ◌<◌, ◌+◌, ◌∷◌, ◌^◌, length, drop, take};
-ghost use Rattle.mix_lines.specs.Lines.{lines};
-ghost use Rattle.mix_lsp.specs.Place.{column_from, first_line, line_at, lines_in, place_after, place_of, returns_in};
+use crate::place::{Encoding, Place};
+use mix_lines::split_line;
+use mix_refused::Memory;
+use mixal_asm::Mention;
+use mixal_text::Span;
+use serde_json::{Value, json};
+use std::alloc::Global;
 
-use crate::encoding::Encoding;
-use crate::place::Place;
-use mix_lines::{line_text, split_whole_line};
-use std::marker::Model;
-
-/// A text in which places are looked for. Places that come in the order of their lines are found in
-/// one walk.
+/// A text in which lines are looked for. Those that come in their order are found in one walk.
 #[derive(Drop)]
 pub(crate) struct Finder<'t> {
+    alloc: Global,
     encoding: Encoding,
     text: &'t [u8],
     // How many lines are passed, how many lines of the protocol they are, and what follows them.
@@ -21,21 +20,10 @@ pub(crate) struct Finder<'t> {
     rest: &'t [u8],
 }
 
-impl<'t> Model for Finder<'t> {
-    ghost use Rattle.mix_lsp.specs.Finder.{Sought, IsWalk};
-
-    ghost Value = { Sought };
-
-    ghost view = { λ f. record { encoding = f.encoding; text = f.text.now } };
-
-    ghost invariant = { λ f. IsWalk f.text.now f.passed f.line f.rest.now };
-}
-
 impl<'t> Finder<'t> {
-    pub(crate) fn of(encoding: Encoding, text: &'t [u8]) -> Finder<'t>
-        ensures { result ≡ record { encoding = encoding; text = text.now } }
-    {
+    pub(crate) fn of(alloc: Global, encoding: Encoding, text: &'t [u8]) -> Finder<'t> {
         Finder {
+            alloc,
             encoding,
             text,
             passed: 0,
@@ -44,115 +32,82 @@ impl<'t> Finder<'t> {
         }
     }
 
-    /// The place of a byte of a line; lines and bytes are counted from 0. A byte that there is not
-    /// is behind its line.
-    #[tactic(auto, unfolding(crate::specs::Place::place_of))]
-    pub(crate) fn place(&mut self, line: u32, from: usize) -> Place
-        ensures is { result ≡ place_of self.old.encoding self.old.text line from }
-        ensures same { self.new ≡ self.old }
-    {
+    /// What follows so many lines.
+    fn rest_from(&mut self, line: u32) -> &'t [u8] {
         if line < self.passed {
             self.passed = 0;
             self.line = 0;
             self.rest = self.text;
         }
-        let (number, rest) = pass(self.line, self.rest, u64::from(line - self.passed));
-        self.passed = line;
-        self.line = number;
-        self.rest = rest;
-        place_after(self.encoding, number, before(first_line(rest), from))
-    }
-}
-
-/// A line, counted from 0; one that there is not is empty.
-pub(crate) fn line_at(text: &[u8], line: u64) -> &[u8]
-    requires { line < 2 ^ 63 }
-    ensures { result.now ≡ line_at text.now line }
-{
-    first_line(pass(0, text, line).1)
-}
-
-// What follows so many lines of a text, and the number of lines of the protocol after them.
-fn pass(before: u64, text: &[u8], count: u64) -> (u64, &[u8])
-    requires { before + length text.now + count < 2 ^ 64 }
-    ensures left { lines result.1.now ≡ drop count (lines text.now) }
-    ensures counts { result.0 + lines_in (lines result.1.now) ≡ before + lines_in (lines text.now) }
-    ensures bound { result.0 + length result.1.now ≤ before + length text.now + count }
-{
-    let mut number = before;
-    let mut rest = text;
-    let mut left = count;
-    while left > 0 {
-        if rest.is_empty() {
-            return (number, rest);
+        for number in self.passed..line {
+            if self.rest.is_empty() {
+                break;
+            }
+            let (text, after) = split_line(self.rest);
+            let returns = text.iter().filter(|byte| **byte == b'\r').count();
+            self.line = self.line.saturating_add(returns as u64).saturating_add(1);
+            self.rest = after;
+            self.passed = number + 1;
         }
-        let (line, after) = next_line(rest);
-        number += returns_in(line) + 1;
-        rest = after;
-        left -= 1;
+        self.rest
     }
-    (number, rest)
-}
 
-#[tactic(auto, using(crate::proofs::PlaceLemmas::stepping))]
-fn next_line(text: &[u8]) -> (&[u8], &[u8])
-    requires { 0 < length text.now }
-    ensures lines { lines text.now ≡ result.0.now ∷ lines result.1.now }
-    ensures bound { length result.0.now + length result.1.now ≤ length text.now }
-    ensures shorter { length result.1.now < length text.now }
-{
-    let (whole, after) = split_whole_line(text);
-    (line_text(whole), after)
-}
-
-fn first_line(text: &[u8]) -> &[u8]
-    ensures is { result.now ≡ first_line (lines text.now) }
-    ensures bound { length result.now ≤ length text.now }
-{
-    if text.is_empty() {
-        text
-    } else {
-        next_line(text).0
+    /// How many bytes stand before a line, counted from 0.
+    pub(crate) fn start(&mut self, line: u32) -> usize {
+        let rest = self.rest_from(line);
+        self.text.len().saturating_sub(rest.len())
     }
-}
 
-/// The first bytes of a line, so many of them.
-pub(crate) fn before(line: &[u8], count: usize) -> &[u8]
-    ensures is { result.now ≡ take count line.now }
-    ensures bound { length result.now ≤ length line.now }
-{
-    &line[..count.min(line.len())]
-}
-
-fn place_after(encoding: Encoding, before: u64, bytes: &[u8]) -> Place
-    requires { before + length bytes.now < 2 ^ 64 }
-    ensures { result ≡ place_after encoding before bytes.now }
-{
-    let line = before + returns_in(bytes);
-    let character = column(encoding, bytes);
-    Place { line, character }
-}
-
-fn returns_in(bytes: &[u8]) -> u64
-    ensures is { result ≡ returns_in bytes.now }
-    ensures bound { result ≤ length bytes.now }
-{
-    bytes.iter().filter(|byte| **byte == b'\r').count() as u64
-}
-
-// The count of what stands behind the last carriage return.
-fn column(encoding: Encoding, bytes: &[u8]) -> u64
-    ensures { result ≡ column_from encoding 0 bytes.now }
-{
-    let mut column = 0;
-    let mut rest = bytes;
-    while let [byte, after @ ..] = rest {
-        column = if *byte == b'\r' {
-            0
+    /// A line, counted from 0; one that there is not is empty.
+    pub(crate) fn line(&mut self, line: u32) -> &'t [u8] {
+        let rest = self.rest_from(line);
+        if rest.is_empty() {
+            rest
         } else {
-            column + encoding.units(*byte)
-        };
-        rest = after;
+            split_line(rest).0
+        }
     }
-    column
+
+    /// The place of a byte of a line; lines and bytes are counted from 0. A byte that there is not
+    /// is behind its line, and one within a character behind that.
+    pub(crate) fn place(&mut self, line: u32, byte: usize) -> Place {
+        let text = self.line(line);
+        let mut place = Place {
+            line: self.line,
+            character: 0,
+        };
+        for byte in &text[..byte.min(text.len())] {
+            if *byte == b'\r' {
+                place.line = place.line.saturating_add(1);
+                place.character = 0;
+            } else {
+                let units = self.encoding.units(*byte);
+                place.character = place.character.saturating_add(units);
+            }
+        }
+        place
+    }
+
+    /// The range of some bytes of a line.
+    pub(crate) fn range(&mut self, line: u32, at: Span) -> Result<Value, Memory> {
+        let from = self.place(line, at.from);
+        let to = self.place(line, at.to);
+        let range = json!(in self.alloc; {
+            "start": {"line": from.line, "character": from.character},
+            "end": {"line": to.line, "character": to.character}
+        })?;
+        Ok(range)
+    }
+
+    /// The range of a mention.
+    pub(crate) fn mentioned(&mut self, mention: &Mention) -> Result<Value, Memory> {
+        self.range(mention.line.saturating_sub(1), mention.at)
+    }
+
+    /// A text in the place of some bytes of a line.
+    pub(crate) fn edit(&mut self, line: u32, at: Span, new: &str) -> Result<Value, Memory> {
+        let range = self.range(line, at)?;
+        let edit = json!(in self.alloc; {"range": range, "newText": new})?;
+        Ok(edit)
+    }
 }

@@ -2,39 +2,29 @@
 //! notifications out.
 #![tactic(auto)]
 
-mod abilities;
 mod actions;
 mod completion;
 mod document;
-mod encoded;
-mod encoding;
-mod fault;
 mod finder;
 mod folds;
-mod formatted;
-mod hints;
 mod hover;
-mod kind;
-mod law;
+mod initialize;
 mod look;
-mod meant;
 mod mending;
-mod mention;
-mod mentioned;
-mod message;
 mod mnemonic;
+mod names;
 mod pairs;
+mod params;
+mod phase;
 mod place;
 mod published;
-mod ranges;
 mod renaming;
 mod replies;
 mod server;
-mod spot;
 mod stream;
 mod tokens;
 
-pub use encoding::Encoding;
-pub use law::response_law;
-pub use server::{Answer, Phase, Server};
+pub use place::Encoding;
+pub use phase::Phase;
+pub use server::{Answer, Server};
 pub use stream::serve;

@@ -1,11 +1,53 @@
-//! Places in a text as the protocol has them, and the text after a change.
+//! Places in a text as the protocol counts them.
 
-ghost use Rattle.std.specs.Prelude.{◌≡◌, ◌≤◌, ◌-◌, ◌<◌, IfOk, length};
-ghost use Rattle.mix_lsp.specs.Place.{after_end, after_ends, after_units, edited, later_end, replaced, rest_at, without_feed};
+ghost use Rattle.std.specs.Prelude.{◌≡◌, ◌≤◌, ◌<◌, true, length};
+ghost use Rattle.mixal_text.specs.Parts.{is_new};
+ghost use Rattle.mix_lsp.specs.Edit.{IsBoundary};
 
-use crate::encoding::Encoding;
-use mix_refused::Memory;
-use std::alloc::Global;
+/// What counts as one: a byte of UTF-8, a unit of UTF-16, or a character, which is a unit of
+/// UTF-32.
+#[derive(Clone, Copy)]
+pub enum Encoding {
+    Utf8,
+    Utf16,
+    Utf32,
+}
+
+impl Encoding {
+    /// The one of a name of the protocol.
+    pub(crate) fn named(name: &str) -> Option<Encoding> {
+        match name {
+            "utf-8" => Some(Encoding::Utf8),
+            "utf-16" => Some(Encoding::Utf16),
+            "utf-32" => Some(Encoding::Utf32),
+            _ => None,
+        }
+    }
+
+    pub(crate) fn name(self) -> &'static str {
+        match self {
+            Encoding::Utf8 => "utf-8",
+            Encoding::Utf16 => "utf-16",
+            Encoding::Utf32 => "utf-32",
+        }
+    }
+
+    /// What a byte of a text in UTF-8 adds to the count: a character is counted at its first byte.
+    pub(crate) fn units(self, byte: u8) -> u64
+        ensures { 0 < result → is_new byte ≡ true }
+    {
+        if 128 <= byte && byte < 192 {
+            return 0;
+        }
+        match self {
+            Encoding::Utf8 if byte >= 240 => 4,
+            Encoding::Utf8 if byte >= 224 => 3,
+            Encoding::Utf8 if byte >= 192 => 2,
+            Encoding::Utf16 if byte >= 240 => 2,
+            _ => 1,
+        }
+    }
+}
 
 /// A place in a text: its line, and how many units of the line stand before it, both from 0.
 #[derive(Clone, Copy)]
@@ -14,117 +56,50 @@ pub(crate) struct Place {
     pub character: u64,
 }
 
-/// What follows a place of a text. A line that there is not is behind the text, and a character
-/// that there is not behind its line.
-#[tactic(auto, unfolding(crate::specs::Place::rest_at))]
-pub(crate) fn rest_at(encoding: Encoding, text: &[u8], at: Place) -> &[u8]
-    ensures rest { result.now ≡ rest_at encoding text.now at }
-    ensures within { length result.now ≤ length text.now }
+/// How many bytes of a text stand before a place. A line that there is not is behind the text, a
+/// character that there is not is behind its line, and a place within a character is where that
+/// begins.
+pub(crate) fn byte_at(encoding: Encoding, text: &[u8], at: Place) -> usize
+    ensures within { result ≤ length text.now }
+    ensures whole { IsBoundary text.now result }
 {
-    after_units(encoding, at.character, after_ends(at.line, text))
-}
-
-// What follows so many ends of lines.
-#[tactic(auto, using(crate::proofs::PlaceLemmas::ends))]
-fn after_ends(count: u64, text: &[u8]) -> &[u8]
-    ensures rest { result.now ≡ after_ends count text.now }
-    ensures within { length result.now ≤ length text.now }
-{
-    let mut rest = text;
-    let mut left = count;
-    while left > 0 && !rest.is_empty() {
-        rest = after_end(rest);
-        left -= 1;
-    }
-    rest
-}
-
-// What follows the first end of a line.
-fn after_end(text: &[u8]) -> &[u8]
-    ensures rest { result.now ≡ after_end text.now }
-    ensures shorter { 0 < length text.now → length result.now < length text.now }
-{
-    let mut rest = text;
-    while let [byte, after @ ..] = rest {
-        if *byte == b'\n' {
-            return after;
+    let mut line = 0;
+    let mut left = at.character;
+    for index in 0..text.len() {
+        let byte = text[index];
+        let is_end = byte == b'\n' || byte == b'\r';
+        if line < at.line {
+            if is_end && !(byte == b'\r' && text[index + 1..].starts_with(b"\n")) {
+                line += 1;
+            }
+            continue;
         }
-        if *byte == b'\r' {
-            return without_feed(after);
-        }
-        rest = after;
-    }
-    rest
-}
-
-fn without_feed(text: &[u8]) -> &[u8]
-    ensures rest { result.now ≡ without_feed text.now }
-    ensures within { length result.now ≤ length text.now }
-{
-    match text {
-        [b'\n', rest @ ..] => rest,
-        _ => text,
-    }
-}
-
-// What follows so many units of a line, up to its end.
-fn after_units(encoding: Encoding, count: u64, text: &[u8]) -> &[u8]
-    ensures rest { result.now ≡ after_units encoding count text.now }
-    ensures within { length result.now ≤ length text.now }
-{
-    let mut rest = text;
-    let mut left = count;
-    while let [byte, after @ ..] = rest {
-        let units = encoding.units(*byte);
-        if *byte == b'\n' || *byte == b'\r' || left < units {
-            return rest;
+        let units = encoding.units(byte);
+        if is_end || left < units {
+            return index;
         }
         left -= units;
-        rest = after;
     }
-    rest
+    text.len()
 }
 
-/// A text after a change: what stands between two places is replaced. A range that ends before it
-/// begins is empty.
-pub(crate) fn edited(
-    alloc: Global,
-    encoding: Encoding,
-    text: &[u8],
-    from: Place,
-    to: Place,
-    new: &str,
-) -> Result<Vec<u8>, Memory>
-    ensures { IfOk result (λ after. after.items ≡ edited encoding text.now from to new.now) }
-{
-    let first = rest_at(encoding, text, from);
-    let second = rest_at(encoding, text, to);
-    replaced(alloc, text, first, second, new)
+/// A byte of a line, both counted from 0. A line feed alone ends a line here.
+#[derive(Clone, Copy)]
+pub(crate) struct Spot {
+    pub line: u64,
+    pub byte: u64,
 }
 
-fn replaced(
-    alloc: Global,
-    text: &[u8],
-    first: &[u8],
-    second: &[u8],
-    new: &str,
-) -> Result<Vec<u8>, Memory>
-    requires { length first.now ≤ length text.now }
-    ensures { IfOk result (λ after. after.items ≡ replaced text.now first.now second.now new.now) }
-{
-    let mut after = Vec::new(alloc);
-    after.extend_from_slice(&text[..text.len() - first.len()])?;
-    after.extend_from_slice(new.as_bytes())?;
-    after.extend_from_slice(later_end(first, second))?;
-    Ok(after)
-}
-
-fn later_end<'t>(first: &'t [u8], second: &'t [u8]) -> &'t [u8]
-    ensures { result.now ≡ later_end first.now second.now }
-{
-    if first.len() < second.len() {
-        first
-    } else {
-        second
+/// The byte at a place.
+pub(crate) fn spot_of(encoding: Encoding, text: &[u8], at: Place) -> Spot {
+    let front = &text[..byte_at(encoding, text, at)];
+    let line = front.iter().filter(|byte| **byte == b'\n').count();
+    let start = match front.iter().rposition(|byte| *byte == b'\n') {
+        Some(end) => end + 1,
+        None => 0,
+    };
+    Spot {
+        line: line as u64,
+        byte: (front.len() - start) as u64,
     }
 }

@@ -1,65 +1,60 @@
 //! The messages that are sent.
 
-ghost use Rattle.std.specs.Prelude.{◌≡◌, IfOk, OnOk};
+ghost use Rattle.std.specs.Prelude.{◌≡◌, None, Some, IfOk, codes};
+ghost use Rattle.serde_json.specs.Find.{get};
 ghost use Rattle.serde_json.specs.View.{view};
-ghost use Rattle.dap_message.specs.Fields.{members_in};
-ghost use Rattle.mix_lsp.specs.Message.{fault_body, head, head_of, notification, refusal, reply};
 
-use crate::fault::Fault;
-use dap_message::Fields;
 use mix_refused::Memory;
-use serde_json::Value;
+use serde_json::{Value, json};
 use std::alloc::Global;
 
-fn head(alloc: Global) -> Result<Fields, Memory>
-    ensures { IfOk result (λ fields. members_in fields ≡ head) }
-{
-    let mut fields = Fields::new(alloc);
-    fields.text("jsonrpc", "2.0")?;
-    Ok(fields)
-}
-
-fn head_of(alloc: Global, id: &Value) -> Result<Fields, Memory>
-    ensures { IfOk result (λ fields. members_in fields ≡ head_of (view id.now)) }
-{
-    let mut fields = head(alloc)?;
-    fields.put("id", id.clone()?)?;
-    Ok(fields)
+/// Why a message is refused, by the numbers of the protocol.
+#[derive(Clone, Copy)]
+pub(crate) enum Fault {
+    /// No JSON, no UTF-8, nested too deep, or no body.
+    NotJson,
+    /// No request, or one that comes too early or too late.
+    NotRequest,
+    NoSuchMethod,
+    BadParams,
+    /// A request before `initialize`.
+    NotReady,
 }
 
 /// The answer to a request.
 pub(crate) fn reply(alloc: Global, id: &Value, body: Value) -> Result<Value, Memory>
-    ensures { IfOk result (λ m. view m ≡ reply (view id.now) (view body)) }
+    ensures { IfOk result (λ m. get (codes "id") (view m) ≡ Some (view id.now)) }
 {
-    let mut message = head_of(alloc, id)?;
-    message.put("result", body)?;
-    Ok(message.done())
+    let message = json!(in alloc; {"jsonrpc": "2.0", "id": id, "result": body})?;
+    Ok(message)
 }
 
 /// The answer to a request that is refused.
 pub(crate) fn refusal(alloc: Global, id: &Value, why: Fault) -> Result<Value, Memory>
-    ensures { IfOk result (λ m. view m ≡ refusal (view id.now) why) }
+    ensures { IfOk result (λ m. get (codes "id") (view m) ≡ Some (view id.now)) }
 {
-    let mut message = head_of(alloc, id)?;
-    message.put("error", fault_body(alloc, why)?)?;
-    Ok(message.done())
+    let error = error(alloc, why)?;
+    let message = json!(in alloc; {"jsonrpc": "2.0", "id": id, "error": error})?;
+    Ok(message)
 }
 
-fn fault_body(alloc: Global, why: Fault) -> Result<Value, Memory>
-    ensures { IfOk result (λ m. view m ≡ fault_body why) }
-{
-    let mut body = Fields::new(alloc);
-    body.put("code", Value::from(why.code()))?;
-    body.text("message", why.text())?;
-    Ok(body.done())
+fn error(alloc: Global, why: Fault) -> Result<Value, Memory> {
+    let (code, text): (i64, &str) = match why {
+        Fault::NotJson => (-32700, "not JSON"),
+        Fault::NotRequest => (-32600, "not a request that can be answered now"),
+        Fault::NoSuchMethod => (-32601, "no such method"),
+        Fault::BadParams => (-32602, "parameters that are not what they have to be"),
+        Fault::NotReady => (-32002, "not initialized"),
+    };
+    let error = json!(in alloc; {"code": code, "message": text})?;
+    Ok(error)
 }
 
-/// What is sent unasked.
-pub(crate) fn notification(alloc: Global, method: &str, params: Value) -> Result<Value, Memory>
-    ensures { IfOk result (λ m. view m ≡ notification method.now (view params)) }
+/// What is sent unasked: the diagnostics of a text.
+pub(crate) fn diagnostics(alloc: Global, params: Value) -> Result<Value, Memory>
+    ensures { IfOk result (λ m. get (codes "id") (view m) ≡ None) }
 {
-    let mut message = head(alloc)?;
-    message.text("method", method)?;
-    message.put("params", params)?;
-    Ok(message.done())
+    let method = "textDocument/publishDiagnostics";
+    let message = json!(in alloc; {"jsonrpc": "2.0", "method": method, "params": params})?;
+    Ok(message)
 }

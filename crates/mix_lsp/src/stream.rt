@@ -9,8 +9,7 @@ ghost use Rattle.dap_stream.specs.declared.broken.Broken.{Broken};
 ghost use Rattle.dap_stream.specs.declared.broken.Broken.TheVariants as broken;
 ghost use Rattle.mix_stream.specs.Stream.{CountsFailure};
 ghost use Rattle.dap_stream.specs.Hearing.{unheard};
-ghost use Rattle.mix_lsp.specs.Reaction.{state_of};
-ghost use Rattle.mix_lsp.specs.Served.{AnswersAs, Served, exit_status, ServedAs, TellsBroken, TurnAs};
+ghost use Rattle.mix_lsp.specs.Served.{AnswersAs, Served, ServedAs, TellsBroken, TurnAs};
 
 use crate::server::Server;
 use dap_stream::{Broken, Ear, Heard, send_one};
@@ -60,7 +59,7 @@ fn talk<R: In, W: Out>(
 ) -> Result<u8, Broken>
     requires in_count { R.failed input.old < 2 ^ 64 - 1 }
     requires out_count { W.failed out.old < 2 ^ 64 - 1 }
-    ensures served { Served result (state_of server.old) (state_of server.new)
+    ensures served { Served result server.old.phase server.new.phase
         (unheard ear.old (R.rest input.old)) (unheard ear.new (R.rest input.new)) (W.told out.old) (W.told out.new) }
     ensures status { IfOk result (λ status. status ≤ 1) }
     ensures read { CountsFailure (result ≡ Err broken.Read) (R.failed input.old) (R.failed input.new) }
@@ -86,7 +85,7 @@ fn turn<R: In, W: Out>(
 ) -> Result<Option<u8>, Broken>
     requires in_count { R.failed input.old < 2 ^ 64 - 1 }
     requires out_count { W.failed out.old < 2 ^ 64 - 1 }
-    ensures turn { TurnAs result (state_of server.old) (state_of server.new)
+    ensures turn { TurnAs result server.old.phase server.new.phase
         (unheard ear.old (R.rest input.old)) (unheard ear.new (R.rest input.new)) (W.told out.old) (W.told out.new) }
     ensures status { IfOk result (λ end. IfSome end (λ status. status ≤ 1)) }
     ensures read { CountsFailure (result ≡ Err broken.Read) (R.failed input.old) (R.failed input.new) }
@@ -99,6 +98,7 @@ fn turn<R: In, W: Out>(
 }
 
 // A frame is answered, and its answer is sent.
+#[tactic(auto, using(crate::proofs::ServedLemmas::answering))]
 fn answer<W: Out>(
     alloc: Global,
     server: &mut Server,
@@ -106,25 +106,14 @@ fn answer<W: Out>(
     out: &mut W,
 ) -> Result<Option<u8>, Broken>
     requires { W.failed out.old < 2 ^ 64 - 1 }
-    ensures answers { AnswersAs result (option_map (λ b. b.items) body.now) (state_of server.old) (state_of server.new) (W.told out.old) (W.told out.new) }
+    ensures answers { AnswersAs result (option_map (λ b. b.items) body.now) server.old.phase server.new.phase (W.told out.old) (W.told out.new) }
     ensures status { IfOk result (λ end. IfSome end (λ status. status ≤ 1)) }
     ensures written { CountsFailure (result ≡ Err broken.Write) (W.failed out.old) (W.failed out.new) }
     ensures only { IfErr result IsMemoryOrWrite }
 {
     let answer = server.receive(slice_of(body))?;
-    send(alloc, &answer.told, out)?;
-    Ok(status_of(answer.end))
-}
-
-fn status_of(end: Option<bool>) -> Option<u8>
-    ensures is { result ≡ option_map exit_status end }
-    ensures bound { IfSome result (λ status. status ≤ 1) }
-{
-    match end {
-        Some(true) => Some(0),
-        Some(false) => Some(1),
-        None => None,
-    }
+    send(alloc, &answer.message, out)?;
+    Ok(answer.status)
 }
 
 fn slice_of(body: &Option<Vec<u8>>) -> Option<&[u8]>

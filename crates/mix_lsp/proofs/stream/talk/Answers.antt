@@ -2,7 +2,6 @@
 use Rattle.std.proofs.Common.{inl, inr, Ok, refl, subst, ◌∙◌, arith}
 use Rattle.std.proofs.lemmas.Result.{err_from_is_err_and}
 use Rattle.dap_stream.specs.Hearing.{unheard}
-use Rattle.mix_lsp.specs.Reaction.{state_of}
 use Rattle.mix_lsp.specs.Served.{TurnAs}
 use Rattle.mix_lsp.proofs.ServedLemmas.{served, talks-next, talks-zero}
 use Rattle.mix_lsp.proofs.stream.talk.Goals as goal
@@ -11,12 +10,12 @@ pub returns-in_err-turn-clause-served : goal.returns-in_err-turn-clause-served
 returns-in_err-turn-clause-served g c =
     let p = err_from_is_err_and c.from_residual.result c.from_residual.ensures.1 in
     rw (p.1, p.2)
-    (served _ (state_of c.args.server.now) (state_of c.turns.server) (state_of c.turn.new.server) _ _ _ _ _ _ c.turns.invariant.talks.0 c.in_err-turn.ensures.turn)
+    (served _ c.args.server.now.phase c.turns.server.phase c.turn.new.server.phase _ _ _ _ _ _ c.turns.invariant.talks.0 c.in_err-turn.ensures.turn)
 
 pub returns-in-Some-clause-served : goal.returns-in-Some-clause-served
 returns-in-Some-clause-served g c =
-    served _ (state_of c.args.server.now) (state_of c.turns.server) (state_of c.turn.new.server) _ _ _ _ _ _ c.turns.invariant.talks.0
-    (inl (subst (λ o. TurnAs (Ok o) (state_of c.turns.server) (state_of c.turn.new.server) (unheard c.turns.ear (g.R.In.rest c.turns.input))
+    served _ c.args.server.now.phase c.turns.server.phase c.turn.new.server.phase _ _ _ _ _ _ c.turns.invariant.talks.0
+    (inl (subst (λ o. TurnAs (Ok o) c.turns.server.phase c.turn.new.server.phase (unheard c.turns.ear (g.R.In.rest c.turns.input))
     (unheard c.turn.new.ear (g.R.In.rest c.turn.new.input)) (g.W.Out.told c.turns.out) (g.W.Out.told c.turn.new.out)) c.in-Some.is c.in_ok-turn.ensures.turn))
 
 pub turns-init : goal.turns-init
@@ -25,8 +24,8 @@ turns-init g c = record { talks = talks-zero _ _ _; read = refl; written = refl 
 pub turns-preserved : goal.turns-preserved
 turns-preserved g c = record {
   talks =
-      talks-next (state_of c.args.server.now) (state_of c.turns.server) (state_of c.turn.new.server) c.turns.turns _ _ _ _ _ _ c.turns.invariant.talks
-      (subst (λ o. TurnAs (Ok o) (state_of c.turns.server) (state_of c.turn.new.server) (unheard c.turns.ear (g.R.In.rest c.turns.input))
+      talks-next c.args.server.now.phase c.turns.server.phase c.turn.new.server.phase c.turns.turns _ _ _ _ _ _ c.turns.invariant.talks
+      (subst (λ o. TurnAs (Ok o) c.turns.server.phase c.turn.new.server.phase (unheard c.turns.ear (g.R.In.rest c.turns.input))
       (unheard c.turn.new.ear (g.R.In.rest c.turn.new.input)) (g.W.Out.told c.turns.out) (g.W.Out.told c.turn.new.out)) c.in-None.is c.in_ok-turn.ensures.turn);
   read = c.in_ok-turn.ensures.read.1 (λ e. cc) ∙ c.turns.invariant.read;
   written = c.in_ok-turn.ensures.written.1 (λ e. cc) ∙ c.turns.invariant.written;
@@ -34,5 +33,5 @@ turns-preserved g c = record {
 
 pub returns-clause-served : goal.returns-clause-served
 returns-clause-served g c =
-    served _ (state_of c.args.server.now) (state_of c.turns.server) (state_of c.turns.server) _ _ _ _ _ _ c.turns.invariant.talks.0
+    served _ c.args.server.now.phase c.turns.server.phase c.turns.server.phase _ _ _ _ _ _ c.turns.invariant.talks.0
     (inr (omega (arith, c.turns.invariant.talks.1), refl, refl, refl))

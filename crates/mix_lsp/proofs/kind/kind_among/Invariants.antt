@@ -1,7 +1,0 @@
-use Rattle.std.proofs.Common.{◌≡◌, drop, map}
-use Rattle.mix_lsp.specs.Kind.{kind_among}
-use Rattle.mix_lsp.proofs.kind.kind_among.Given as goal
-
-abbrev pub invariant-loop-row : goal.invariant-loop-row
-invariant-loop-row l =
-    kind_among l.name (map (λ row. (row.0.now, row.1)) (drop l.row-index l.rows)) ≡ kind_among l.name (map (λ row. (row.0.now, row.1)) l.rows)
