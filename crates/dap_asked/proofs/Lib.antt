@@ -1,5 +1,5 @@
 pub mod EntryLemmas
-pub mod LayoutLemmas
+pub mod FaultLemmas
 pub mod ListLemmas
 pub mod MemoryLemmas
 pub mod ReferenceLemmas

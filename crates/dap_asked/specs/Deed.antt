@@ -3,7 +3,6 @@
 use Rattle.std.specs.Prelude.{ℕ, ◌==◌, List, [], ◌∷◌, codes, Bool, true, false, Option, None, Some, option_and_then, Result, Ok, Err, ok_or, nat_lt, if◌then◌else◌}
 use Rattle.std.specs.Option.{option_map, option_or}
 use Rattle.std.specs.Str.{bytes_eq, trim}
-use Rattle.mixal_text.specs.Steps.{◌>>=◌}
 use Rattle.mixal_text.specs.WValue.{w_value_of}
 use Rattle.mixal_text.specs.declared.misread.Misread.{Misread}
 use Rattle.mix_word.specs.Register.{register_named}
@@ -39,6 +38,7 @@ use Rattle.dap_asked.specs.declared.kind.Act.{Act}
 use Rattle.dap_asked.specs.declared.kind.Act.TheVariants as act
 use Rattle.dap_asked.specs.declared.scope.Scope.{Scope}
 use Rattle.dap_asked.specs.declared.scope.Scope.TheVariants as scope
+use Rattle.mixal_text.specs.Steps.{◌>>=◌}
 
 -- an answer of the session, or its refusal as that of the adapter
 abbrev pub or_refusal : {A : Type 0} → Result A Refusal → Result A Fault

@@ -1,25 +1,12 @@
 -- The memory as bytes: a cell is six, its sign and its five bytes; cell N begins at byte 6N.
-use Rattle.std.specs.Prelude.{ℕ, ℤ, pos, negsuc, ◌+ℤ◌, Bool, false, ◌-◌, ◌*◌, ◌/◌, ◌%◌, ◌==◌, ◌&&◌, nat_le, nat_lt, List, [], ◌∷◌, ◌++◌, codes, drop, length, map, replicate, Option, None, Some, option_and_then, if◌then◌else◌}
+use Rattle.std.specs.Prelude.{ℕ, ℤ, pos, negsuc, ◌+ℤ◌, Bool, ◌/◌, ◌%◌, ◌==◌, ◌&&◌, nat_le, nat_lt, List, [], ◌∷◌, codes, drop, length, Option, None, Some, option_and_then, if◌then◌else◌}
 use Rattle.std.specs.Char.{is_digit}
-use Rattle.std.specs.Fmt.{digits}
-use Rattle.std.specs.List.{list_all, range_with_len, starts_with}
+use Rattle.std.specs.List.{list_all, starts_with}
 use Rattle.std.specs.Str.Parse.{digits_value, without_leading_plus}
 use Rattle.mix_word.specs.Word.{WordValue, byte_of, word_of_bytes}
 use Rattle.mix_word.specs.declared.word.Sign.{Sign}
 use Rattle.mix_word.specs.declared.word.Sign.TheVariants.{Plus, Minus}
 use Rattle.mix_machine.specs.World.{WorldState, cell_of}
-
--- a numeral in at least four digits
-unfoldable pub in_four_digits : List ℕ → List ℕ
-in_four_digits numeral = replicate (4 - length numeral) 48 ++ numeral
-
--- the reference of a byte: hexadecimal digits after `0x`
-unfoldable pub byte_reference : ℕ → List ℕ
-byte_reference byte = codes "0x" ++ in_four_digits (digits 16 false byte)
-
--- the reference of a cell: where it begins
-abbrev pub reference_of : ℕ → List ℕ
-reference_of cell = byte_reference (cell * 6)
 
 -- the bytes of a cell: its sign, 0 for + and 1 for -, and its five bytes
 abbrev pub sign_byte : Sign → ℕ
@@ -32,10 +19,6 @@ cell_byte word i = if i == 0 then sign_byte word.sign else byte_of word i
 -- a byte of the memory
 abbrev pub memory_byte : WorldState → ℕ → ℕ
 memory_byte w at = cell_byte (cell_of w (at / 6)) (at % 6)
-
--- all bytes of the memory
-unfoldable pub memory_bytes : WorldState → List ℕ
-memory_bytes w = map (memory_byte w) (range_with_len 0 24000)
 
 -- the word of the six bytes of a cell, unless the first is no sign or another is over 63
 abbrev pub sign_of : ℕ → Sign

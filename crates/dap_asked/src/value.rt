@@ -1,10 +1,7 @@
 //! The values of the machine as texts.
 
-ghost use Rattle.std.specs.Prelude.{◌≡◌, ◌<◌, Some, None, IfOk, nat_lt, if◌then◌else◌, string_bytes};
-ghost use Rattle.std.specs.Option.{option_map};
-ghost use Rattle.mix_word.specs.Instruction.{number_text};
-ghost use Rattle.mix_session.specs.Differences.{held_text};
-ghost use Rattle.dap_asked.specs.Value.{cell_name, word_value, register_value, row_characters, part_value, value_of_part, variable_named, variable_asked, value_asked, worth_text, text_of_worth, evaluated, expression_asked, number_asked, number_held, number_of_worth, worth_asked};
+ghost use Rattle.std.specs.Prelude.{◌≡◌, ◌<◌, IfOk, string_bytes};
+ghost use Rattle.dap_asked.specs.Value.{row_characters};
 
 use crate::deed::{Worth, hovered, worth_of};
 use crate::scope::{part_of, scope_of};
@@ -13,24 +10,18 @@ use mix_machine::{Part, Place, Reg, Word, World};
 use mix_refused::Memory;
 use mix_said::sentence;
 use mix_session::{Altered, Characters, Held, Session};
-use mix_word::{Number, Operation};
+use mix_word::Number;
 use std::alloc::Global;
 
 /// A word: its sign and bytes, and its number.
-#[tactic(auto, unfolding(crate::specs::Value::word_value))]
-pub fn word_value(alloc: Global, word: Word) -> Result<String, Memory>
-    ensures { IfOk result (λ s. string_bytes s ≡ word_value word) }
-{
+pub fn word_value(alloc: Global, word: Word) -> Result<String, Memory> {
     let number = Number(word);
     let text = format!(in alloc; "{word} = {number}")?;
     Ok(text)
 }
 
 /// What a register holds: sign and bytes, of which an index register and rJ have two, and the number.
-#[tactic(auto, unfolding(crate::specs::Value::register_value))]
-pub fn register_value(alloc: Global, world: &World, register: Reg) -> Result<String, Memory>
-    ensures { IfOk result (λ s. string_bytes s ≡ register_value world.now register) }
-{
+pub fn register_value(alloc: Global, world: &World, register: Reg) -> Result<String, Memory> {
     let number = Number(world.register(register));
     let held = Held(world, Altered::Register(register));
     let text = format!(in alloc; "{held} = {number}")?;
@@ -38,18 +29,13 @@ pub fn register_value(alloc: Global, world: &World, register: Reg) -> Result<Str
 }
 
 /// A cell by its number, in four digits.
-#[tactic(auto, using(crate::proofs::LayoutLemmas::written_in_four_digits))]
-pub fn cell_name(alloc: Global, number: u16) -> Result<String, Memory>
-    ensures { IfOk result (λ s. string_bytes s ≡ cell_name number) }
-{
+pub fn cell_name(alloc: Global, number: u16) -> Result<String, Memory> {
     let text = format!(in alloc; "{number:04}")?;
     Ok(text)
 }
 
 /// What a part of the machine holds, but for a unit.
-pub fn held(alloc: Global, world: &World, part: Altered) -> Result<String, Memory>
-    ensures { IfOk result (λ s. string_bytes s ≡ held_text world.now part) }
-{
+pub fn held(alloc: Global, world: &World, part: Altered) -> Result<String, Memory> {
     let held = Held(world, part);
     let text = format!(in alloc; "{held}")?;
     Ok(text)
@@ -65,9 +51,7 @@ pub fn characters(alloc: Global, words: &[Word]) -> Result<String, Memory>
 }
 
 /// The cell at the location, if there is one.
-pub fn cell_at(world: &World) -> Option<Place>
-    ensures { result ≡ (if nat_lt world.now.loc 4000 then Some world.now.loc else None) }
-{
+pub fn cell_at(world: &World) -> Option<Place> {
     Place::of(world.loc())
 }
 
@@ -80,9 +64,7 @@ pub fn place_at(number: u16) -> Place
 }
 
 /// The value of the variable that a request names, or nothing if there is none.
-pub fn value_asked(alloc: Global, world: &World, request: &Request) -> Result<String, Memory>
-    ensures { IfOk result (λ s. string_bytes s ≡ value_asked world.now request.now) }
-{
+pub fn value_asked(alloc: Global, world: &World, request: &Request) -> Result<String, Memory> {
     match variable_asked(request) {
         Some(part) => part_value(alloc, world, part),
         None => Ok(String::new(alloc)),
@@ -90,17 +72,13 @@ pub fn value_asked(alloc: Global, world: &World, request: &Request) -> Result<St
 }
 
 // The variable that a request names: its scope by a reference, and its name.
-fn variable_asked(request: &Request) -> Option<Part>
-    ensures { result ≡ variable_asked request.now }
-{
+fn variable_asked(request: &Request) -> Option<Part> {
     let scope = request.number("variablesReference").and_then(scope_of)?;
     part_of(scope, request.text("name").unwrap_or(""))
 }
 
 // What a part of the machine holds, as its variable shows it.
-fn part_value(alloc: Global, world: &World, part: Part) -> Result<String, Memory>
-    ensures { IfOk result (λ s. string_bytes s ≡ part_value world.now part) }
-{
+fn part_value(alloc: Global, world: &World, part: Part) -> Result<String, Memory> {
     match part {
         Part::Register(register) => register_value(alloc, world, register),
         Part::Over => held(alloc, world, Altered::Over),
@@ -113,9 +91,7 @@ fn part_value(alloc: Global, world: &World, part: Part) -> Result<String, Memory
 }
 
 /// What the expression of a request is worth, or nothing if it is worth nothing.
-pub fn worth_asked(alloc: Global, session: &Session, request: &Request) -> Result<String, Memory>
-    ensures { IfOk result (λ s. string_bytes s ≡ worth_asked session.now request.now) }
-{
+pub fn worth_asked(alloc: Global, session: &Session, request: &Request) -> Result<String, Memory> {
     match expression_asked(session, request) {
         Some(worth) => worth_text(alloc, session.world(), &worth),
         None => Ok(String::new(alloc)),
@@ -123,9 +99,7 @@ pub fn worth_asked(alloc: Global, session: &Session, request: &Request) -> Resul
 }
 
 /// The same, or what the operation does that a hover names.
-pub fn evaluated(alloc: Global, session: &Session, request: &Request) -> Result<String, Memory>
-    ensures { IfOk result (λ s. string_bytes s ≡ evaluated session.now request.now) }
-{
+pub fn evaluated(alloc: Global, session: &Session, request: &Request) -> Result<String, Memory> {
     match expression_asked(session, request) {
         Some(worth) => worth_text(alloc, session.world(), &worth),
         None => match hovered(request) {
@@ -140,18 +114,14 @@ pub fn number_asked(
     alloc: Global,
     session: &Session,
     request: &Request,
-) -> Result<Option<String>, Memory>
-    ensures { IfOk result (λ number. option_map string_bytes number ≡ number_asked session.now request.now) }
-{
+) -> Result<Option<String>, Memory> {
     match expression_asked(session, request) {
         Some(worth) => number_of_worth(alloc, session.world(), &worth),
         None => Ok(None),
     }
 }
 
-fn number_of_worth(alloc: Global, world: &World, worth: &Worth) -> Result<Option<String>, Memory>
-    ensures { IfOk result (λ number. option_map string_bytes number ≡ number_of_worth world.now worth.now) }
-{
+fn number_of_worth(alloc: Global, world: &World, worth: &Worth) -> Result<Option<String>, Memory> {
     match worth {
         Worth::Word(word) => Ok(Some(number_text(alloc, *word)?)),
         Worth::Held(part) => number_held(alloc, world, *part),
@@ -159,9 +129,7 @@ fn number_of_worth(alloc: Global, world: &World, worth: &Worth) -> Result<Option
 }
 
 // The number of what a part holds, if it is a word or a number.
-fn number_held(alloc: Global, world: &World, part: Part) -> Result<Option<String>, Memory>
-    ensures { IfOk result (λ number. option_map string_bytes number ≡ number_held world.now part) }
-{
+fn number_held(alloc: Global, world: &World, part: Part) -> Result<Option<String>, Memory> {
     match part {
         Part::Register(register) => Ok(Some(number_text(alloc, world.register(register))?)),
         Part::Loc => Ok(Some(format!(in alloc; "{}", world.loc())?)),
@@ -172,23 +140,17 @@ fn number_held(alloc: Global, world: &World, part: Part) -> Result<Option<String
 }
 
 // The number of a word, with its sign: that of -0 too.
-fn number_text(alloc: Global, word: Word) -> Result<String, Memory>
-    ensures { IfOk result (λ s. string_bytes s ≡ number_text word) }
-{
+fn number_text(alloc: Global, word: Word) -> Result<String, Memory> {
     let number = Number(word);
     let text = format!(in alloc; "{number}")?;
     Ok(text)
 }
 
-fn expression_asked(session: &Session, request: &Request) -> Option<Worth>
-    ensures { result ≡ expression_asked session.now request.now }
-{
+fn expression_asked(session: &Session, request: &Request) -> Option<Worth> {
     worth_of(session, request.text("expression")?)
 }
 
-fn worth_text(alloc: Global, world: &World, worth: &Worth) -> Result<String, Memory>
-    ensures { IfOk result (λ s. string_bytes s ≡ worth_text world.now worth.now) }
-{
+fn worth_text(alloc: Global, world: &World, worth: &Worth) -> Result<String, Memory> {
     match worth {
         Worth::Word(word) => word_value(alloc, *word),
         Worth::Held(part) => part_value(alloc, world, *part),

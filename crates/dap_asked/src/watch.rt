@@ -1,18 +1,15 @@
 //! What data breakpoints watch.
 
-ghost use Rattle.std.specs.Prelude.{◌≡◌, IfOk, string_bytes};
-ghost use Rattle.serde_json.specs.View.{view};
-ghost use Rattle.dap_asked.specs.List.{Shows};
-ghost use Rattle.dap_asked.specs.Watch.{part_named, unless_time, watched, watch_name, watch_shown, watch_of, watch_asked};
+ghost use Rattle.std.specs.Prelude.{◌≡◌};
+ghost use Rattle.dap_asked.specs.Watch.{part_named};
 
 use crate::fault::Fault;
-use crate::list::add;
 use crate::scope::{Scope, part_of, scope_of};
-use dap_message::{Fields, Request};
+use dap_message::Request;
 use mix_machine::Part;
 use mix_refused::{Memory, Refused};
 use mix_session::{Condition, Session};
-use serde_json::Value;
+use serde_json::{Value, json};
 use std::alloc::Global;
 
 /// The part of the machine that a name stands for, as after `until` in a command.
@@ -30,52 +27,26 @@ pub fn data_breakpoint_info(
     alloc: Global,
     session: &Session,
     request: &Request,
-) -> Result<Value, Refused<Fault>>
-    ensures { Shows (watch_asked session.now request.now) result }
-{
+) -> Result<Value, Refused<Fault>> {
     let Some(name) = request.text("name") else {
         return Err(Refused::Fault(Fault::BadArgument));
     };
     let scope = request.number("variablesReference").and_then(scope_of);
-    Ok(watch_of(alloc, session, scope, name)?)
-}
-
-fn watch_of(
-    alloc: Global,
-    session: &Session,
-    scope: Option<Scope>,
-    name: &str,
-) -> Result<Value, Memory>
-    ensures { IfOk result (λ v. view v ≡ watch_of session.now scope name.now) }
-{
-    match watched(session, scope, name) {
-        Some(_) => watch_shown(alloc, watch_name(alloc, scope, name)?.as_str()),
-        None => {
-            let mut body = Fields::new(alloc);
-            body.put("dataId", Value::Null)?;
-            body.text("description", "no part of the machine")?;
-            Ok(body.done())
-        }
+    if watched(session, scope, name).is_none() {
+        let why = "no part of the machine";
+        return Ok(json!(in alloc; {"dataId": null, "description": why})?);
     }
-}
-
-fn watch_shown(alloc: Global, id: &str) -> Result<Value, Memory>
-    ensures { IfOk result (λ v. view v ≡ watch_shown id.now) }
-{
-    let mut types = Vec::new(alloc);
-    add(&mut types, Value::try_from_str(alloc, "write")?)?;
-    let mut body = Fields::new(alloc);
-    body.text("dataId", id)?;
-    body.text("description", id)?;
-    body.list("accessTypes", types)?;
-    body.flag("canPersist", true)?;
-    Ok(body.done())
+    let id = watch_name(alloc, scope, name)?;
+    Ok(json!(in alloc; {
+        "dataId": id.as_str(),
+        "description": id.as_str(),
+        "accessTypes": ["write"],
+        "canPersist": true
+    })?)
 }
 
 // The part that is watched: a variable of a scope, or without one what the name stands for.
-fn watched(session: &Session, scope: Option<Scope>, name: &str) -> Option<Part>
-    ensures { result ≡ watched session.now scope name.now }
-{
+fn watched(session: &Session, scope: Option<Scope>, name: &str) -> Option<Part> {
     match scope {
         Some(scope) => unless_time(part_of(scope, name)?),
         None => part_named(session, name),
@@ -83,9 +54,7 @@ fn watched(session: &Session, scope: Option<Scope>, name: &str) -> Option<Part>
 }
 
 // Each step alters the location and the clock, so these are not watched.
-fn unless_time(part: Part) -> Option<Part>
-    ensures { result ≡ unless_time part }
-{
+fn unless_time(part: Part) -> Option<Part> {
     match part {
         Part::Loc | Part::Clock => None,
         Part::Register(_) | Part::Over | Part::Cmp | Part::Cell(_) | Part::Unit(_) => Some(part),
@@ -93,9 +62,7 @@ fn unless_time(part: Part) -> Option<Part>
 }
 
 // The name of what is watched, as after `until` in a command.
-fn watch_name(alloc: Global, scope: Option<Scope>, name: &str) -> Result<String, Memory>
-    ensures { IfOk result (λ s. string_bytes s ≡ watch_name scope name.now) }
-{
+fn watch_name(alloc: Global, scope: Option<Scope>, name: &str) -> Result<String, Memory> {
     let id = match scope {
         Some(Scope::Page(_)) => format!(in alloc; "cell {name}")?,
         Some(Scope::Units) => format!(in alloc; "unit {name}")?,

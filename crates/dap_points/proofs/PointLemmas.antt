@@ -1,6 +1,6 @@
 -- Facts of what stands of breakpoints, of which one more is looked at, and of their cells.
 use Rattle.std.proofs.Common.{◌≡◌, ℕ, zero, suc, ◌+◌, ◌-◌, ◌<◌, Bool, true, false, List, [], ◌∷◌, ◌++◌, length, get_or, slice_set, take, drop, map, filter_map, option_to_list, Option, None, Some, refl, ap, sym, ◌∙◌, arith, add-one, if◌then◌else◌}
-use Rattle.std.proofs.lemmas.List.{length-map, map_more, map_push}
+use Rattle.std.proofs.lemmas.List.{length-map, map_more}
 use Rattle.std.proofs.lemmas.List.Elements.{filter_map-append}
 use Rattle.std.specs.List.{cons_option}
 use Rattle.mix_machine.specs.World.{WorldState}
@@ -24,11 +24,6 @@ pub stands_too : {X Y : Type 0} (h : X → Option Y) (front : List X) (x : X) (n
     next ≡ front ++ x ∷ [] → old ≡ filter_map h front → new ≡ old ++ option_to_list (h x) → new ≡ filter_map h next
 stands_too h front x next old new is so_far more =
     more ∙ ap (λ t. t ++ option_to_list (h x)) so_far ∙ sym (one_more h front x) ∙ ap (filter_map h) (sym is)
-
-pub told_too : {X Y : Type 0} (f : X → Y) (front : List X) (x : X) (next : List X) (old new : List Y) (y : Y) →
-    next ≡ front ++ x ∷ [] → old ≡ map f front → new ≡ old ++ y ∷ [] → y ≡ f x → new ≡ map f next
-told_too f front x next old new y is so_far more told =
-    more ∙ ap (λ t. t ++ y ∷ []) so_far ∙ ap (λ z. map f front ++ z ∷ []) told ∙ sym (map_push f front x) ∙ ap (map f) (sym is)
 
 -- ---- their cells
 

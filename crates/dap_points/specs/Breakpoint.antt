@@ -1,8 +1,7 @@
 -- A breakpoint of a client at a cell: which arrivals of a run stop it there, and how that is asked for.
-use Rattle.std.specs.Prelude.{ℕ, ◌-◌, ◌==◌, ◌&&◌, List, codes, length, Bool, true, false, Option, None, Some, option_and_then, Result, Ok, Err, if◌then◌else◌}
+use Rattle.std.specs.Prelude.{ℕ, ◌-◌, ◌==◌, ◌&&◌, List, codes, length, Bool, true, Option, None, Some, option_and_then, Result, Ok, Err, if◌then◌else◌}
 use Rattle.std.specs.Str.{trim_end}
 use Rattle.serde_json.specs.Data.{Data}
-use Rattle.mixal_text.specs.Steps.{◌>>=◌}
 use Rattle.mix_lines.specs.Number.{number_up_to}
 use Rattle.mix_machine.specs.World.{WorldState}
 use Rattle.mix_session.specs.Session.{SessionState}
@@ -12,6 +11,7 @@ use Rattle.dap_points.specs.declared.points.comparison.Comparison.{Comparison}
 use Rattle.dap_points.specs.declared.points.breakpoint.Breakpoint.{Breakpoint}
 use Rattle.dap_points.specs.declared.points.breakpoint.Flaw.{Flaw}
 use Rattle.dap_points.specs.declared.points.breakpoint.Flaw.TheVariants as flaw
+use Rattle.mixal_text.specs.Steps.{◌>>=◌}
 
 -- ---- at which arrivals of a run it stops
 
@@ -65,10 +65,3 @@ breakpoint_at s entry cell = do
   condition ← condition_in s (written_in (codes "condition") entry)
   count ← count_in (written_in (codes "hitCondition") entry)
   Ok (record { cell = cell; condition = condition; left = count })
-
--- why one does not stand, as it is told
-abbrev pub flaw_text : Flaw → List ℕ
-flaw_text flaw.NoWord = codes "no word from this line on"
-flaw_text flaw.NoCell = codes "no such cell"
-flaw_text flaw.NoCondition = codes "no such condition"
-flaw_text flaw.NoCount = codes "no such hit count"

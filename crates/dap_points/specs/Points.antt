@@ -1,13 +1,12 @@
 -- Breakpoints of a client: where runs stop and what is watched, what a request for some of them leaves, and how each of these is told; and the kinds
 -- of exceptions that stop a run.
-use Rattle.std.specs.Prelude.{ℕ, pos, ◌-◌, ◌==◌, ◌||◌, not, List, [], ◌++◌, codes, length, take, drop, slice_get, map, Bool, true, false, Option, None, Some, option_and_then, unwrap_or, nat_le, Result, Ok, Err, ok_or, if◌then◌else◌}
+use Rattle.std.specs.Prelude.{ℕ, pos, ◌-◌, ◌==◌, ◌||◌, not, List, [], ◌++◌, codes, length, take, drop, slice_get, map, Bool, true, false, Option, None, Some, option_and_then, unwrap_or, nat_le, Result, Ok, ok_or, if◌then◌else◌}
 use Rattle.std.specs.List.{filter_map, list_any}
 use Rattle.std.specs.Option.{option_map}
 use Rattle.std.specs.Result.{result_ok}
 use Rattle.std.specs.Str.{bytes_eq}
-use Rattle.serde_json.specs.Data.{Data, Members, boolean, string, number, unsigned, object, no_members, put}
+use Rattle.serde_json.specs.Data.{Data}
 use Rattle.serde_json.specs.Find.{as_str}
-use Rattle.mixal_text.specs.Steps.{◌>>=◌}
 use Rattle.mix_machine.specs.World.{WorldState}
 use Rattle.mix_session.specs.Session.{SessionState}
 use Rattle.mix_session.specs.Stops.{StopsState, is_awaited}
@@ -16,11 +15,10 @@ use Rattle.mix_session.specs.declared.condition.Condition.TheVariants.{Alters, C
 use Rattle.dap_message.specs.Members.{text_in, number_in}
 use Rattle.dap_message.specs.Request.{argument_of}
 use Rattle.dap_message.specs.declared.request.Request.{Request}
-use Rattle.dap_points.specs.Breakpoint.{breakpoint_at, flaw_text, stops, with_arrival}
+use Rattle.dap_points.specs.Breakpoint.{breakpoint_at, stops, with_arrival}
 use Rattle.dap_asked.specs.Entries.{entries_of, integer_in}
-use Rattle.dap_asked.specs.Layout.{reference_of, cell_of_reference}
-use Rattle.dap_asked.specs.List.{list_alone}
-use Rattle.dap_asked.specs.Look.{line_for, source_line}
+use Rattle.dap_asked.specs.Layout.{cell_of_reference}
+use Rattle.dap_asked.specs.Look.{source_line}
 use Rattle.dap_points.specs.Targets.{cell_of_line}
 use Rattle.dap_asked.specs.Watch.{part_named}
 use Rattle.dap_asked.specs.declared.kind.Target.{Target}
@@ -28,6 +26,7 @@ use Rattle.dap_asked.specs.declared.kind.Target.TheVariants as target
 use Rattle.dap_points.specs.declared.points.breakpoint.Breakpoint.{Breakpoint}
 use Rattle.dap_points.specs.declared.points.breakpoint.Flaw.{Flaw}
 use Rattle.dap_points.specs.declared.points.breakpoint.Flaw.TheVariants as flaw
+use Rattle.mixal_text.specs.Steps.{◌>>=◌}
 
 -- the breakpoints of lines, and those of instructions, what is watched, and the kinds of exceptions that stop a run
 pub record PointsState : Type 0 where
@@ -75,21 +74,9 @@ reason_at points w =
 
 -- ---- the answer: whether each breakpoint that is asked for stands, and where, or why it does not
 
-abbrev pub verified : Members
-verified = put (codes "verified") (boolean true) no_members
-
-abbrev pub verified_at : ℕ → Members
-verified_at cell = put (codes "instructionReference") (string (reference_of cell)) verified
-
-abbrev pub unverified : List ℕ → Data
-unverified why = object (put (codes "message") (string why) (put (codes "verified") (boolean false) no_members))
-
 -- an entry is a breakpoint that is asked for
 abbrev pub asked_in : Request → List Data
 asked_in r = entries_of r (codes "breakpoints")
-
-abbrev pub answer_by : (Data → Data) → List Data → Data
-answer_by told entries = list_alone (codes "breakpoints") (map told entries)
 
 -- ---- breakpoints of lines
 
@@ -102,10 +89,6 @@ line_asked s first entry = do
 
 abbrev pub line_point : SessionState → ℕ → Data → Option Breakpoint
 line_point s first entry = option_map (λ asked. asked.0) (result_ok (line_asked s first entry))
-
-abbrev pub line_told : ℕ → Result (Breakpoint × ℕ) Flaw → Data
-line_told first (Err why) = unverified (flaw_text why)
-line_told first (Ok asked) = object (put (codes "line") (number (unsigned (line_for first asked.1))) (verified_at asked.0.cell))
 
 -- ---- of which source: one path is that of the program, if it ends with its name, before which stands a folder, or nothing
 
@@ -132,13 +115,6 @@ abbrev pub with_lines : SessionState → List ℕ → ℕ → Request → Points
 with_lines s name first r points =
     if is_source name r then record points { lines = filter_map (line_point s first) (asked_in r) } else points
 
-abbrev pub none_told : List ℕ → Data → Data
-none_told why entry = unverified why
-
-abbrev pub lines_told : SessionState → List ℕ → ℕ → Request → Data
-lines_told s name first r =
-    if is_source name r then answer_by (λ entry. line_told first (line_asked s first entry)) (asked_in r) else answer_by (none_told (codes "another source")) (asked_in r)
-
 -- ---- breakpoints of instructions: at the cell of a reference, with an offset in bytes
 
 abbrev pub instruction_cell : Data → Option ℕ
@@ -155,30 +131,16 @@ instruction_asked s entry = do
 abbrev pub instruction_point : SessionState → Data → Option Breakpoint
 instruction_point s entry = option_map (λ asked. asked.0) (result_ok (instruction_asked s entry))
 
-abbrev pub instruction_told : Result (Breakpoint × ℕ) Flaw → Data
-instruction_told (Err why) = unverified (flaw_text why)
-instruction_told (Ok asked) = object (verified_at asked.1)
-
 abbrev pub with_instructions : SessionState → Request → PointsState → PointsState
 with_instructions s r points = record points { instructions = filter_map (instruction_point s) (asked_in r) }
-
-abbrev pub instructions_told : SessionState → Request → Data
-instructions_told s r = answer_by (λ entry. instruction_told (instruction_asked s entry)) (asked_in r)
 
 -- ---- data breakpoints: on the part of the machine that is named as after `until` in a command
 
 abbrev pub data_point : SessionState → Data → Option Condition
 data_point s entry = option_map Alters (part_named s (unwrap_or (text_in (codes "dataId") entry) []))
 
-abbrev pub data_told : Option Condition → Data
-data_told None = unverified (codes "no such part of the machine")
-data_told (Some condition) = object verified
-
 abbrev pub with_watched : SessionState → Request → PointsState → PointsState
 with_watched s r points = record points { watched = filter_map (data_point s) (asked_in r) }
-
-abbrev pub watched_told : SessionState → Request → Data
-watched_told s r = answer_by (λ entry. data_told (data_point s entry)) (asked_in r)
 
 -- ---- kinds of exceptions, by the names of their filters: one for the steps that conflict with a transfer under way
 
@@ -189,23 +151,11 @@ is_conflict_named (Some name) = bytes_eq name (codes "conflict")
 abbrev pub filter_point : Data → Option Condition
 filter_point entry = if is_conflict_named (as_str entry) then Some Conflicts else None
 
-abbrev pub filter_told : Option Condition → Data
-filter_told None = unverified (codes "no such filter")
-filter_told (Some condition) = object verified
-
 abbrev pub filters_in : Request → List Data
 filters_in r = entries_of r (codes "filters")
 
 abbrev pub with_filters : Request → PointsState → PointsState
 with_filters r points = record points { filters = filter_map filter_point (filters_in r) }
-
-abbrev pub filters_told : Request → Data
-filters_told r = answer_by (λ entry. filter_told (filter_point entry)) (filters_in r)
-
--- ---- on functions there are none
-
-abbrev pub functions_told : Request → Data
-functions_told r = answer_by (none_told (codes "no such function")) (asked_in r)
 
 -- ---- by what they are set on: those of a kind take the place of those that stand
 
@@ -215,21 +165,6 @@ points_after target.Instructions s name first r points = with_instructions s r p
 points_after target.Data s name first r points = with_watched s r points
 points_after target.Exceptions s name first r points = with_filters r points
 points_after target.Nothing s name first r points = points
-
-abbrev pub points_told : Target → SessionState → List ℕ → ℕ → Request → Data
-points_told target.Lines s name first r = lines_told s name first r
-points_told target.Instructions s name first r = instructions_told s r
-points_told target.Data s name first r = watched_told s r
-points_told target.Exceptions s name first r = filters_told r
-points_told target.Nothing s name first r = functions_told r
-
--- none is set on a program that is not debugged
-abbrev pub none_set : Target → Request → Data
-none_set target.Lines r = answer_by (none_told (codes "not debugged")) (asked_in r)
-none_set target.Instructions r = answer_by (none_told (codes "not debugged")) (asked_in r)
-none_set target.Data r = answer_by (none_told (codes "not debugged")) (asked_in r)
-none_set target.Exceptions r = answer_by (none_told (codes "not debugged")) (filters_in r)
-none_set target.Nothing r = functions_told r
 
 -- what stops a run of the client: its breakpoints, its kinds of exceptions, and a location that is waited for; the breakpoints of the machine don't
 abbrev pub stops_of : PointsState → Option ℕ → StopsState

@@ -4,8 +4,6 @@ use Rattle.std.specs.List.{range_with_len}
 use Rattle.base64.specs.Engines.{standard}
 use Rattle.base64.specs.GeneralPurpose.{decode_of}
 use Rattle.base64.specs.declared.decode.DecodeError.{DecodeError}
-use Rattle.serde_json.specs.Data.{Data, number, unsigned, object, no_members, put}
-use Rattle.mixal_text.specs.Steps.{◌>>=◌}
 use Rattle.mix_word.specs.Word.{WordValue}
 use Rattle.mix_machine.specs.World.{WorldState}
 use Rattle.mix_machine.specs.declared.old.Change.TheVariants as change
@@ -19,6 +17,7 @@ use Rattle.dap_asked.specs.Layout.{memory_byte, word_of}
 use Rattle.dap_asked.specs.Memory.{start_asked}
 use Rattle.dap_asked.specs.declared.fault.Fault.{Fault}
 use Rattle.dap_asked.specs.declared.fault.Fault.TheVariants as fault
+use Rattle.mixal_text.specs.Steps.{◌>>=◌}
 
 -- the bytes that a text in base64 stands for
 abbrev pub decoded : Result (List ℕ) DecodeError → Result (List ℕ) Fault
@@ -71,9 +70,6 @@ write_asked s r = do
 abbrev pub count_written : Result (List (ℕ × WordValue) × ℕ) Fault → ℕ
 count_written (Ok asked) = asked.1
 count_written (Err wrong) = 0
-
-abbrev pub bytes_written : ℕ → Data
-bytes_written count = object (put (codes "bytesWritten") (number (unsigned count)) no_members)
 
 -- cells are set, one after the other
 abbrev pub with_cells : Timeline → List (ℕ × WordValue) → Timeline

@@ -1,9 +1,9 @@
 //! The breakpoints of the client, and the kinds of exceptions that stop a run. They stand outside the machine, so no change of it takes one away.
 
-ghost use Rattle.std.specs.Prelude.{◌≡◌, IfOk, OnOk, OnErr};
+ghost use Rattle.std.specs.Prelude.{◌≡◌, OnOk, OnErr};
 ghost use Rattle.serde_json.specs.View.{view};
 ghost use Rattle.mix_session.specs.Stops.{is_awaited};
-ghost use Rattle.dap_points.specs.Points.{no_points, is_filter, passes, reason_at, stops_of, with_arrivals, with_lines, lines_told, with_instructions, instructions_told, with_watched, watched_told, with_filters, filters_told};
+ghost use Rattle.dap_points.specs.Points.{no_points, is_filter, passes, reason_at, stops_of, with_arrivals, with_lines, with_instructions, with_watched, with_filters};
 
 mod amount;
 mod breakpoint;
@@ -129,7 +129,6 @@ impl Points {
     ) -> Result<Value, Memory>
         ensures stand { OnOk result (self.new ≡ with_lines session.now name.now first request.now self.old) }
         ensures same { OnErr result (self.new ≡ self.old) }
-        ensures told { IfOk result (λ v. view v ≡ lines_told session.now name.now first request.now) }
     {
         if !is_source(name, request) {
             return never(alloc, "another source", request, "breakpoints");
@@ -150,7 +149,6 @@ impl Points {
     ) -> Result<Value, Memory>
         ensures stand { OnOk result (self.new ≡ with_instructions session.now request.now self.old) }
         ensures same { OnErr result (self.new ≡ self.old) }
-        ensures told { IfOk result (λ v. view v ≡ instructions_told session.now request.now) }
     {
         let (instructions, told) = set_all(
             alloc,
@@ -173,7 +171,6 @@ impl Points {
     ) -> Result<Value, Memory>
         ensures stand { OnOk result (self.new ≡ with_watched session.now request.now self.old) }
         ensures same { OnErr result (self.new ≡ self.old) }
-        ensures told { IfOk result (λ v. view v ≡ watched_told session.now request.now) }
     {
         let (watched, told) = set_all(alloc, &Parts { session }, request, "breakpoints")?;
         let conditions = both(alloc, watched.as_slice(), self.filters.as_slice())?;
@@ -186,7 +183,6 @@ impl Points {
     pub fn set_filters(&mut self, alloc: Global, request: &Request) -> Result<Value, Memory>
         ensures stand { OnOk result (self.new ≡ with_filters request.now self.old) }
         ensures same { OnErr result (self.new ≡ self.old) }
-        ensures told { IfOk result (λ v. view v ≡ filters_told request.now) }
     {
         let (filters, told) = set_all(alloc, &Filters, request, "filters")?;
         let conditions = both(alloc, self.watched.as_slice(), filters.as_slice())?;

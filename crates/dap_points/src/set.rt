@@ -1,24 +1,21 @@
 //! Where a `goto` leads, and writes of the memory.
 
-ghost use Rattle.std.specs.Prelude.{◌≡◌, ◌∷◌, [], ◌+◌, ◌≤◌, ◌<◌, IfOk, Ok, Err, length, map};
-ghost use Rattle.serde_json.specs.View.{view};
+ghost use Rattle.std.specs.Prelude.{◌≡◌, ◌∷◌, [], ◌+◌, ◌≤◌, ◌<◌, IfOk, Ok, Err, length};
 ghost use Rattle.mix_refused.specs.Refused.{IfFault};
-ghost use Rattle.dap_asked.specs.List.{Shows};
-ghost use Rattle.dap_points.specs.Targets.{target, targets_at, targets_asked};
 ghost use Rattle.dap_points.specs.Written.{byte_with, bytes_asked, cells_of, cells_with, cells_written, count_written, word_with, write_asked, with_cells, SetsSome, Writes};
 
 use crate::points::cell_of_line;
 use base64::DecodeAllocError;
 use base64::engine::general_purpose::STANDARD;
 use dap_asked::{
-    CELL_BYTES, Fault, MEMORY_BYTES, add, cell_name, line_for, list_alone, memory_byte, place_at,
-    source_line, start_of, word_of,
+    CELL_BYTES, Fault, MEMORY_BYTES, cell_name, line_for, memory_byte, place_at, source_line,
+    start_of, word_of,
 };
-use dap_message::{Fields, Request};
+use dap_message::Request;
 use mix_machine::{Change, Place, Word, World};
 use mix_refused::{Memory, Refused};
 use mix_session::Session;
-use serde_json::Value;
+use serde_json::{Value, json};
 use std::alloc::Global;
 
 /// The cells that a `goto` to a line of the source may lead to: the first one from the line on.
@@ -27,40 +24,17 @@ pub fn goto_targets(
     session: &Session,
     first: u64,
     request: &Request,
-) -> Result<Value, Refused<Fault>>
-    ensures { Shows (targets_asked session.now first request.now) result }
-{
+) -> Result<Value, Refused<Fault>> {
     let Some(line) = request.number("line") else {
         return Err(Refused::Fault(Fault::BadArgument));
     };
-    let found = cell_of_line(session.program(), source_line(first, line));
-    let list = targets_at(alloc, first, found)?;
-    Ok(list_alone(alloc, "targets", list)?)
-}
-
-fn targets_at(alloc: Global, first: u64, found: Option<(Place, u64)>) -> Result<Vec<Value>, Memory>
-    ensures { IfOk result (λ list. map view list.items ≡ targets_at first found) }
-{
     let mut list = Vec::new(alloc);
-    match found {
-        Some((cell, line)) => {
-            let target = target(alloc, cell.number(), line_for(first, line))?;
-            add(&mut list, target)?;
-            Ok(list)
-        }
-        None => Ok(list),
+    if let Some((cell, line)) = cell_of_line(session.program(), source_line(first, line)) {
+        let (label, line) = (cell_name(alloc, cell.number())?, line_for(first, line));
+        let id = u64::from(cell.number());
+        list.push(json!(in alloc; {"id": id, "label": label, "line": line})?)?;
     }
-}
-
-// A cell as a target, with the line as the client counts it.
-fn target(alloc: Global, cell: u16, line: u64) -> Result<Value, Memory>
-    ensures { IfOk result (λ v. view v ≡ target cell line) }
-{
-    let mut target = Fields::new(alloc);
-    target.number("id", u64::from(cell))?;
-    target.text("label", cell_name(alloc, cell)?.as_str())?;
-    target.number("line", line)?;
-    Ok(target.done())
+    Ok(json!(in alloc; {"targets": list})?)
 }
 
 /// Writes bytes in base64 into the memory, a change for each cell that they lie in, and tells how many they are. All bytes are looked at before

@@ -1,15 +1,2 @@
 pub mod Asked
-pub mod Bundle
-pub mod Change
-pub mod Check
-pub mod Counts
-pub mod Decoded
-pub mod Given
-pub mod Next
-pub mod Path
-pub mod Program
-pub mod State
-pub mod Units
 pub mod Variables
-pub mod View
-pub mod Writes

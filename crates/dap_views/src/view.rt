@@ -1,14 +1,5 @@
 //! Views: what a page shows of the program, the machine and its changes, as values. They only look.
 
-ghost use Rattle.std.specs.Prelude.{◌≡◌, IfOk, OnOk, string_bytes};
-ghost use Rattle.serde_json.specs.Data.{put, string};
-ghost use Rattle.serde_json.specs.View.{view};
-ghost use Rattle.mix_word.specs.Instruction.{number_text};
-ghost use Rattle.dap_message.specs.Fields.{members_in};
-ghost use Rattle.dap_views.specs.Given.{given_told};
-ghost use Rattle.dap_asked.specs.List.{Shows};
-ghost use Rattle.dap_views.specs.View.{put_digits, put_texts, put_word, put_short, put_register, word_shown, part_name};
-
 mod asked;
 mod bundle;
 mod change;
@@ -33,7 +24,7 @@ use mix_machine::{Reg, Word};
 use mix_refused::{Memory, Refused};
 use mix_session::{Altered, Letters, ShortLetters};
 use mix_word::{Number, Short};
-pub use next::{next_law, next_view};
+pub use next::next_view;
 pub use path::path_view;
 pub use program::program_view;
 use serde_json::Value;
@@ -43,9 +34,7 @@ pub use units::units_view;
 pub use writes::writes_view;
 
 /// What is asked of a text that the request gives.
-pub fn given_view(alloc: Global, given: Given, request: &Request) -> Result<Value, Refused<Fault>>
-    ensures { Shows (given_told given request.now) result }
-{
+pub fn given_view(alloc: Global, given: Given, request: &Request) -> Result<Value, Refused<Fault>> {
     match given {
         Given::Check => check_view(alloc, request),
         Given::Bundle => bundle_view(alloc, request),
@@ -53,41 +42,33 @@ pub fn given_view(alloc: Global, given: Given, request: &Request) -> Result<Valu
 }
 
 // A number that may be greater than what a page counts exactly, in decimal digits.
-fn put_digits(alloc: Global, fields: &mut Fields, name: &str, number: u128) -> Result<(), Memory>
-    ensures { OnOk result (members_in fields.new ≡ put_digits name.now number (members_in fields.old)) }
-{
+fn put_digits(alloc: Global, fields: &mut Fields, name: &str, number: u128) -> Result<(), Memory> {
     let digits = format!(in alloc; "{number}")?;
     fields.text(name, digits.as_str())
 }
 
 // A word as its bytes, as its number and in characters.
-fn put_word(alloc: Global, fields: &mut Fields, word: Word) -> Result<(), Memory>
-    ensures { OnOk result (members_in fields.new ≡ put_word word (members_in fields.old)) }
-{
+fn put_word(alloc: Global, fields: &mut Fields, word: Word) -> Result<(), Memory> {
     let letters = Letters(word);
     let bytes = format!(in alloc; "{word}")?;
     let characters = format!(in alloc; "{letters}")?;
     put_texts(alloc, fields, bytes.as_str(), word, characters.as_str())
 }
 
-// The two bytes of an index register and of rJ.
-fn put_short(alloc: Global, fields: &mut Fields, word: Word) -> Result<(), Memory>
-    ensures { OnOk result (members_in fields.new ≡ put_short word (members_in fields.old)) }
-{
-    let (short, letters) = (Short(word), ShortLetters(word));
-    let bytes = format!(in alloc; "{short}")?;
-    let characters = format!(in alloc; "{letters}")?;
-    put_texts(alloc, fields, bytes.as_str(), word, characters.as_str())
-}
-
 // The word of a register: five bytes of rA and rX, two of the others.
-fn put_register(alloc: Global, fields: &mut Fields, register: Reg, word: Word) -> Result<(), Memory>
-    ensures { OnOk result (members_in fields.new ≡ put_register register word (members_in fields.old)) }
-{
+fn put_register(
+    alloc: Global,
+    fields: &mut Fields,
+    register: Reg,
+    word: Word,
+) -> Result<(), Memory> {
     match register {
         Reg::A | Reg::X => put_word(alloc, fields, word),
         Reg::I1 | Reg::I2 | Reg::I3 | Reg::I4 | Reg::I5 | Reg::I6 | Reg::J => {
-            put_short(alloc, fields, word)
+            let (short, letters) = (Short(word), ShortLetters(word));
+            let bytes = format!(in alloc; "{short}")?;
+            let characters = format!(in alloc; "{letters}")?;
+            put_texts(alloc, fields, bytes.as_str(), word, characters.as_str())
         }
     }
 }
@@ -98,36 +79,28 @@ fn put_texts(
     bytes: &str,
     word: Word,
     characters: &str,
-) -> Result<(), Memory>
-    ensures { OnOk result (members_in fields.new ≡ put_texts bytes.now (number_text word) characters.now (members_in fields.old)) }
-{
+) -> Result<(), Memory> {
     fields.text("word", bytes)?;
     put_number(alloc, fields, "number", word)?;
     fields.text("characters", characters)
 }
 
 // A word alone.
-fn word_shown(alloc: Global, word: Word) -> Result<Value, Memory>
-    ensures { IfOk result (λ v. view v ≡ word_shown word) }
-{
+fn word_shown(alloc: Global, word: Word) -> Result<Value, Memory> {
     let mut fields = Fields::new(alloc);
     put_word(alloc, &mut fields, word)?;
     Ok(fields.done())
 }
 
 // The number of a word, with its sign: that of -0 too.
-fn put_number(alloc: Global, fields: &mut Fields, name: &str, word: Word) -> Result<(), Memory>
-    ensures { OnOk result (members_in fields.new ≡ put name.now (string (number_text word)) (members_in fields.old)) }
-{
+fn put_number(alloc: Global, fields: &mut Fields, name: &str, word: Word) -> Result<(), Memory> {
     let number = Number(word);
     let number = format!(in alloc; "{number}")?;
     fields.text(name, number.as_str())
 }
 
 // The name of a part of the machine, as after `until` in a command.
-fn part_name(alloc: Global, part: Altered) -> Result<String, Memory>
-    ensures { IfOk result (λ s. string_bytes s ≡ part_name part) }
-{
+fn part_name(alloc: Global, part: Altered) -> Result<String, Memory> {
     let text = match part {
         Altered::Register(register) => format!(in alloc; "{}", register.name())?,
         Altered::Over => format!(in alloc; "over")?,

@@ -12,7 +12,7 @@ use Rattle.mix_dap.specs.declared.waiting.Asked.TheVariants as asked
 
 -- its texts are those that it asks for, and nothing is told
 kind-launch : (k : Kind) (knows : List ℕ → Known) (texts : Texts) (r : Request) (a b : Outbox)
-    → ShowsBefore knows (answer_before k r) (events_before k) (later_before k) (asked.Launch texts) r a b
+    → ShowsBefore knows (answer_before k) (events_before k) (later_before k) (asked.Launch texts) r a b
     → (k ≡ kind.Launch) × AreTexts knows r texts × (b ≡ a)
 kind-launch kind.Initialize knows texts r a b is = absurd (let e = is.0 in cc)
 kind-launch kind.Terminate knows texts r a b is = absurd (let e = is.0 in cc)

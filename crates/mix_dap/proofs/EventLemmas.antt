@@ -1,17 +1,21 @@
 -- Events, and an answer before them, one after the other.
-use Rattle.std.proofs.Common.{◌≡◌, ◌<◌, ◌≤◌, ℕ, zero, suc, ◌+◌, List, [], ◌∷◌, ◌++◌, None, Result, Ok, Err, drop, length, slice_index_or, refl, ap, sym, subst, ◌∙◌, arith}
+use Rattle.std.proofs.Common.{◌≡◌, ◌<◌, ◌≤◌, ℕ, zero, suc, ◌+◌, List, [], ◌∷◌, ◌++◌, None, Ok, Err, drop, length, slice_index_or, refl, ap, sym, subst, ◌∙◌, arith}
 use Rattle.std.proofs.lemmas.List.{append_assoc, append-nil}
 use Rattle.std.specs.Prelude.{map, codes}
 use Rattle.serde_json.specs.Data.{Data}
 use Rattle.mix_machine.specs.World.{WorldState}
 use Rattle.mix_machine.specs.units.Row.{RowState}
-use Rattle.dap_message.specs.Message.{next_seq, waits, event_message, output_message, refusal_message, reply_message, Adds}
+use Rattle.dap_message.specs.Message.{next_seq, waits, event_message, output_message, reply_message, Adds}
 use Rattle.dap_message.specs.declared.outbox.Outbox.{Outbox}
 use Rattle.dap_message.specs.declared.request.Request.{Request}
-use Rattle.mix_dap.specs.Events.{Event, AddsAnswer, AddsEvents, Sends, all_areas, event_messages, last_seq, out_of_date}
-use Rattle.dap_asked.specs.Fault.{fault_number, fault_text, fault_place}
+use Rattle.mix_dap.specs.Events.{Event, AddsAnswer, AddsEvents, Sends, all_areas, initialized, event_messages, last_seq, out_of_date}
+use Rattle.dap_asked.specs.Fault.{Refuses}
 use Rattle.mix_dap.specs.Output.{output, outputs, row_output}
-use Rattle.mix_dap.specs.Replies.{answer_message}
+use Rattle.mix_dap.specs.Answer.{LaunchTells, TellsReport, report_told}
+use Rattle.mix_dap.specs.Launched.{launched_of}
+use Rattle.mix_dap.specs.Replies.{AddsEither, AddsRefusal, AddsReply, answer_message}
+use Rattle.mix_session.specs.Session.{SessionState}
+use Rattle.mix_dap.specs.declared.launch.Texts.{Texts}
 use Rattle.dap_asked.specs.declared.fault.Fault.{Fault}
 use Rattle.mix_dap.specs.declared.printed.Printed.{Printed}
 
@@ -59,15 +63,6 @@ pub adds-then-four : (ws xs ys zs : List Event) (a b c d e : Outbox) → AddsEve
 adds-then-four ws xs ys zs a b c d e p q r s =
     adds-then ws (xs ++ (ys ++ zs)) a b e p (adds-then xs (ys ++ zs) b c e q (adds-then ys zs c d e r s))
 
--- an answer alone
-pub answer-alone : (shown : Result Data Fault) (r : Request) (body : Data) (old new : Outbox) → shown ≡ Ok body
-    → Adds old new (λ seq. reply_message seq r body) → AddsAnswer (answer_message r shown) [] old new
-answer-alone shown r body old new is adds = record { told = rw is adds.0; seq = adds.1 }
-
-pub answer-with : (r : Request) (body shown : Data) (old new : Outbox) → body ≡ shown → Adds old new (λ seq. reply_message seq r body)
-    → AddsAnswer (answer_message r (Ok shown)) [] old new
-answer-with r body shown old new is adds = answer-alone (Ok shown) r body old new (ap Ok (sym is)) adds
-
 -- and then events
 pub answer-then : (message : ℕ → Data) (ys : List Event) (old mid new : Outbox) → AddsAnswer message [] old mid → AddsEvents ys mid new
     → AddsAnswer message ys old new
@@ -77,10 +72,14 @@ answer-then message ys old mid new before after = record {
   seq = after.seq ∙ ap (λ n. last_seq n ys) before.seq;
 }
 
-pub answer-then-two : (message : ℕ → Data) (xs ys : List Event) (old mid later new : Outbox) → AddsAnswer message [] old mid → AddsEvents xs mid later
-    → AddsEvents ys later new → AddsAnswer message (xs ++ ys) old new
-answer-then-two message xs ys old mid later new before first second =
-    answer-then message (xs ++ ys) old mid new before (adds-then xs ys mid later new first second)
+-- a response alone
+pub reply-alone : (r : Request) (body : Data) (old new : Outbox) → Adds old new (λ seq. reply_message seq r body) → AddsReply r [] old new
+reply-alone r body old new adds = record { body = body; adds = record { told = adds.0; seq = adds.1 } }
+
+-- and then events
+pub reply-then : (r : Request) (ys : List Event) (old mid new : Outbox) → AddsReply r [] old mid → AddsEvents ys mid new → AddsReply r ys old new
+reply-then r ys old mid new before after =
+    record { body = before.body; adds = answer-then (answer_message r (Ok before.body)) ys old mid new before.adds after }
 
 -- ---- rows
 
@@ -124,12 +123,43 @@ sends-all adds old new none is = record { old = old; new = new; none = none; all
 -- ---- refusals
 
 -- a refusal alone
-pub answer-refused : (shown : Result Data Fault) (r : Request) (why : Fault) (old mid new : Outbox) → shown ≡ Err why → mid ≡ old
-    → Adds mid new (λ seq. refusal_message seq r (fault_number why) (fault_text why) (fault_place why)) → AddsAnswer (answer_message r shown) [] old new
-answer-refused shown r why old mid new is same adds = record { told = rw is (rw (sym same) adds.0); seq = rw (sym same) adds.1 }
+pub refusal-alone : (r : Request) (why : Fault) (old new : Outbox) → Refuses r why old new → AddsRefusal r why [] old new
+refusal-alone r why old new is = record { text = is.text; place = is.place; adds = record { told = is.adds.0; seq = is.adds.1 } }
+
+-- what only looks
+pub either-reply : (r : Request) (body : Data) (old new : Outbox) → Adds old new (λ seq. reply_message seq r body) → AddsEither r [] old new
+either-reply r body old new adds = record { body = Ok body; adds = record { told = adds.0; seq = adds.1 } }
+
+pub either-refused : (r : Request) (why : Fault) (old new : Outbox) → Refuses r why old new → AddsEither r [] old new
+either-refused r why old new is =
+    let alone = refusal-alone r why old new is in
+    record { body = Err (record { why = why; text = alone.text; place = alone.place }); adds = alone.adds }
+
+-- ---- a launch
+
+pub report-some : (report : List ℕ) (old new : Outbox) → AddsEvents (report_told report) old new → TellsReport old new
+report-some report old new is = record { report = report; told = is }
+
+pub launch-refused : (r : Request) (texts : Texts) (why : Fault) (old mid new : Outbox) → launched_of texts ≡ Err why → Refuses r why old mid
+    → TellsReport mid new → LaunchTells r texts old new
+launch-refused r texts why old mid new is refused said =
+    let alone = refusal-alone r why old mid refused in
+    let told = answer-then (answer_message r (Err (record { why = why; text = alone.text; place = alone.place }))) (report_told said.report) old mid new alone.adds said.told in
+    let all : AddsRefusal r why (report_told said.report) old new = record { text = alone.text; place = alone.place; adds = told } in
+    record { report = said.report; told = rw is all }
+
+pub launch-done : (r : Request) (texts : Texts) (session : SessionState) (body : Data) (old mid later new : Outbox) → launched_of texts ≡ Ok session
+    → Adds old mid (λ seq. reply_message seq r body) → TellsReport mid later → AddsEvents (initialized ∷ []) later new → LaunchTells r texts old new
+launch-done r texts session body old mid later new is adds said begins = record {
+  report = said.report;
+  told = rw is (reply-then r (report_told said.report ++ initialized ∷ []) old mid new (reply-alone r body old mid adds)
+      (adds-then (report_told said.report) (initialized ∷ []) mid later new said.told begins));
+}
 
 pub ruleset sending = (sends-all)
 
 pub ruleset events = (adds-none, adds-output, date-told, adds-then)
 
-pub ruleset answering = (answer-alone, answer-with, answer-then, answer-then-two, answer-refused)
+pub ruleset reporting = (report-some)
+
+pub ruleset answering = (reply-alone, reply-then, refusal-alone, either-reply, either-refused, launch-refused)

@@ -4,12 +4,9 @@ use Rattle.dap_message.specs.Message.{waits}
 use Rattle.dap_asked.specs.Kind.{kind_before}
 use Rattle.dap_message.specs.declared.outbox.Outbox.{Outbox}
 use Rattle.dap_message.specs.declared.request.Request.{Request}
-use Rattle.mix_dap.specs.Answer.{launch_shown, launch_told}
+use Rattle.mix_dap.specs.Answer.{LaunchTells}
 use Rattle.mix_dap.specs.Before.{AskedShows}
 use Rattle.mix_dap.specs.Dialogue.{Opens}
-use Rattle.mix_dap.specs.Events.{AddsAnswer}
-use Rattle.mix_dap.specs.Launched.{launched_of}
-use Rattle.mix_dap.specs.Replies.{answer_message}
 use Rattle.mix_dap.specs.Texts.{Known}
 use Rattle.mix_dap.specs.declared.launch.Texts.{Texts}
 use Rattle.mix_dap.specs.declared.waiting.Asked.TheVariants as asked
@@ -18,7 +15,7 @@ use Rattle.mix_dap.proofs.AsksLemmas.{launch-waits}
 -- nothing waits before it, nor while its texts are read
 pub opens-as : (knows : List ℕ → Known) (request : Request) (texts : Texts) (a b c : Outbox) → waits a ≡ []
     → AskedShows knows (kind_before request) (asked.Launch texts) request a b
-    → AddsAnswer (answer_message request (launch_shown (launched_of texts))) (launch_told texts) b c → Opens request texts (waits c) a.seq c.seq
+    → LaunchTells request texts b c → Opens request texts (waits c) a.seq c.seq
 opens-as knows request texts a b c none shows prints =
     let launch = launch-waits (kind_before request) knows texts request a b shows in
     ((launch.0, knows, launch.1), record { old = b; new = c; none = ap waits launch.2 ∙ none; all = refl; follow = ap (λ (o : Outbox). o.seq) launch.2; lead = refl; added = prints })

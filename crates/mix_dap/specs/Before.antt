@@ -1,12 +1,10 @@
 -- How a request is answered before a program is launched.
 use Rattle.std.specs.Prelude.{◌≡◌, ℕ, List, [], ◌∷◌, Option, None, Some, Result, Ok, Err}
-use Rattle.serde_json.specs.Data.{Data, null}
 use Rattle.dap_message.specs.declared.outbox.Outbox.{Outbox}
 use Rattle.dap_message.specs.declared.request.Request.{Request}
-use Rattle.mix_dap.specs.Capabilities.{capabilities, client_of}
-use Rattle.dap_views.specs.Given.{given_told}
-use Rattle.mix_dap.specs.Events.{AddsAnswer, Event, terminated}
-use Rattle.mix_dap.specs.Replies.{answer_message}
+use Rattle.mix_dap.specs.Capabilities.{client_of}
+use Rattle.mix_dap.specs.Events.{Event, terminated}
+use Rattle.mix_dap.specs.Replies.{AddsRefusal, AnswersAs, Outcome, denied, looked, served}
 use Rattle.mix_dap.specs.Texts.{Known, AreTexts, RefusesTexts}
 use Rattle.dap_asked.specs.declared.fault.Fault.{Fault}
 use Rattle.dap_asked.specs.declared.fault.Fault.TheVariants as fault
@@ -16,20 +14,20 @@ use Rattle.dap_asked.specs.declared.kind.Kind.TheVariants as kind
 use Rattle.mix_dap.specs.declared.waiting.Asked.{Asked}
 use Rattle.mix_dap.specs.declared.waiting.Asked.TheVariants as asked
 
--- how a request is answered that is no launch: what needs a program is refused, and a text is checked
-abbrev pub answer_before : Kind → Request → Option (Result Data Fault)
-answer_before kind.Initialize r = Some (Ok capabilities)
-answer_before kind.Terminate r = Some (Ok null)
-answer_before kind.Disconnect r = Some (Ok null)
-answer_before kind.Launch r = None
-answer_before (kind.Look look) r = Some (Err fault.NotLaunched)
-answer_before (kind.Given given) r = Some (given_told given r)
-answer_before (kind.Points target) r = Some (Err fault.NotLaunched)
-answer_before kind.Pause r = Some (Err fault.NotLaunched)
-answer_before kind.Restart r = Some (Err fault.NotLaunched)
-answer_before kind.Cancel r = Some (Err fault.NotLaunched)
-answer_before kind.Write r = Some (Err fault.NotLaunched)
-answer_before (kind.Act act) r = Some (Err fault.NotLaunched)
+-- how a request is answered that is no launch: what needs a program is refused, and a text is looked at
+abbrev pub answer_before : Kind → Option Outcome
+answer_before kind.Initialize = Some served
+answer_before kind.Terminate = Some served
+answer_before kind.Disconnect = Some served
+answer_before kind.Launch = None
+answer_before (kind.Look look) = Some (denied fault.NotLaunched)
+answer_before (kind.Given given) = Some looked
+answer_before (kind.Points target) = Some (denied fault.NotLaunched)
+answer_before kind.Pause = Some (denied fault.NotLaunched)
+answer_before kind.Restart = Some (denied fault.NotLaunched)
+answer_before kind.Cancel = Some (denied fault.NotLaunched)
+answer_before kind.Write = Some (denied fault.NotLaunched)
+answer_before (kind.Act act) = Some (denied fault.NotLaunched)
 
 -- what is told after its answer
 abbrev pub events_before : Kind → List Event
@@ -43,18 +41,18 @@ later_before other = asked.Answered
 
 -- a launch is refused, since a text can't be had, or it waits with its texts, of which a library knows this
 abbrev pub LaunchShows : (List ℕ → Known) → Asked → Request → Outbox → Outbox → Type 0
-LaunchShows knows asked.Answered r old new = (why : Fault) × RefusesTexts knows r why × AddsAnswer (answer_message r (Err why)) [] old new
+LaunchShows knows asked.Answered r old new = (why : Fault) × RefusesTexts knows r why × AddsRefusal r why [] old new
 LaunchShows knows asked.Over r old new = ⊥
 LaunchShows knows (asked.Launch texts) r old new = AreTexts knows r texts × (new ≡ old)
 
-abbrev pub ShowsBefore : (List ℕ → Known) → Option (Result Data Fault) → List Event → Asked → Asked → Request → Outbox → Outbox → Type 0
+abbrev pub ShowsBefore : (List ℕ → Known) → Option Outcome → List Event → Asked → Asked → Request → Outbox → Outbox → Type 0
 ShowsBefore knows None events later how r old new = LaunchShows knows how r old new
-ShowsBefore knows (Some shown) events later how r old new = (how ≡ later) × AddsAnswer (answer_message r shown) events old new
+ShowsBefore knows (Some outcome) events later how r old new = (how ≡ later) × AnswersAs outcome r events old new
 
 -- by what it is about: one of no known name, or with an argument that is not what it has to be, is always refused
 abbrev pub AskedShows : (List ℕ → Known) → Result Kind Fault → Asked → Request → Outbox → Outbox → Type 0
-AskedShows knows (Err why) how r old new = ShowsBefore knows (Some (Err why)) [] asked.Answered how r old new
-AskedShows knows (Ok k) how r old new = ShowsBefore knows (answer_before k r) (events_before k) (later_before k) how r old new
+AskedShows knows (Err why) how r old new = ShowsBefore knows (Some (denied why)) [] asked.Answered how r old new
+AskedShows knows (Ok k) how r old new = ShowsBefore knows (answer_before k) (events_before k) (later_before k) how r old new
 
 -- whether a launch is asked for
 abbrev pub IsLaunch : Result Kind Fault → Type 0

@@ -1,36 +1,9 @@
 -- What the adapter can do, and what the client says of itself.
-use Rattle.std.specs.Prelude.{ℕ, Bool, true, false, List, [], ◌∷◌, codes, Option, None, Some, option_and_then}
-use Rattle.serde_json.specs.Data.{Data, Members, array, boolean, string, object, no_members, put}
+use Rattle.std.specs.Prelude.{ℕ, Bool, true, false, List, codes, Option, None, Some, option_and_then}
 use Rattle.serde_json.specs.Find.{as_bool}
-use Rattle.serde_json.specs.View.{items_of}
 use Rattle.dap_message.specs.Request.{argument_of, flag_of}
 use Rattle.dap_message.specs.declared.request.Request.{Request}
 use Rattle.mix_dap.specs.declared.capabilities.Client.{Client}
-
--- what it supports, by the names of the protocol
-abbrev pub abilities : List (List ℕ)
-abilities =
-    codes "supportsConfigurationDoneRequest" ∷ codes "supportsConditionalBreakpoints" ∷ codes "supportsHitConditionalBreakpoints" ∷ codes "supportsStepBack" ∷ codes "supportsSetVariable" ∷ codes "supportsSetExpression"
-    ∷ codes "supportsGotoTargetsRequest" ∷ codes "supportsEvaluateForHovers" ∷ codes "supportsCompletionsRequest" ∷ codes "supportsRestartRequest" ∷ codes "supportsExceptionInfoRequest"
-    ∷ codes "supportsTerminateRequest" ∷ codes "supportsDataBreakpoints" ∷ codes "supportsReadMemoryRequest" ∷ codes "supportsWriteMemoryRequest" ∷ codes "supportsDisassembleRequest"
-    ∷ codes "supportsInstructionBreakpoints" ∷ codes "supportsBreakpointLocationsRequest" ∷ codes "supportsSteppingGranularity" ∷ []
-
--- each of them is true
-abbrev pub put_abilities : List (List ℕ) → Members → Members
-put_abilities [] members = members
-put_abilities (name ∷ names) members = put_abilities names (put name (boolean true) members)
-
--- the filter of steps that conflict with a transfer under way, which is off at first
-abbrev pub conflict_filter : Data
-conflict_filter =
-    object (put (codes "default") (boolean false) (put (codes "description") (string (codes "A run stops at a step that uses a cell which a transfer under way forbids."))
-    (put (codes "label") (string (codes "Conflicts with a transfer under way")) (put (codes "filter") (string (codes "conflict")) no_members))))
-
-abbrev pub put_filters : Members → Members
-put_filters members = put (codes "exceptionBreakpointFilters") (array (items_of (conflict_filter ∷ []))) members
-
-abbrev pub capabilities : Data
-capabilities = object (put_filters (put_abilities abilities no_members))
 
 -- what an argument says, where it is true or false
 abbrev pub asked_flag : Request → List ℕ → Option Bool

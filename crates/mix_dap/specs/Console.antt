@@ -1,7 +1,7 @@
 -- What a line of the console says: a line of a script, or the words that a person types at a prompt.
 use Rattle.std.specs.Prelude.{ℕ, List, [], ◌||◌, Bool, true, false, not, is_ok, codes, Option, None, Some, Result, Ok, Err, if◌then◌else◌}
 use Rattle.mix_lines.specs.Lines.{words}
-use Rattle.mix_person.specs.Aside.{aside_of}
+use Rattle.mix_person.specs.Aside.{is_aside}
 use Rattle.mix_person.specs.Person.{kind_of, person_line}
 use Rattle.mix_person.specs.declared.person.Line.{Line}
 use Rattle.mix_person.specs.declared.person.Line.TheVariants as line_kind
@@ -29,17 +29,17 @@ is_script s typed = is_ok (request_in s typed) || not (is_command (kind_of (word
 abbrev pub line_meant : SessionState → List ℕ → List ℕ
 line_meant s typed = if is_script s typed then typed else person_line (names_of s.program) [] [] typed
 
--- what is only said of it, if that is all, as at a prompt
-abbrev pub said_of : SessionState → List ℕ → Option (List ℕ)
-said_of s typed = if is_script s typed then None else aside_of s (line_meant s typed)
+-- whether something is only said of it, as at a prompt
+abbrev pub is_said : SessionState → List ℕ → Bool
+is_said s typed = if is_script s typed then false else is_aside s (line_meant s typed)
 
 -- a line of the console: nothing is done where something is only said
-abbrev pub deed_unless : Option (List ℕ) → Result Deed Fault → Result Deed Fault
-deed_unless None asked = asked
-deed_unless (Some text) asked = Ok deed.Nothing
+abbrev pub deed_unless : Bool → Result Deed Fault → Result Deed Fault
+deed_unless false asked = asked
+deed_unless true asked = Ok deed.Nothing
 
 abbrev pub console_deed : SessionState → List ℕ → Result Deed Fault
-console_deed s typed = deed_unless (said_of s typed) (line_deed s (line_meant s typed))
+console_deed s typed = deed_unless (is_said s typed) (line_deed s (line_meant s typed))
 
 abbrev pub console_asked : SessionState → Option (List ℕ) → Result Deed Fault
 console_asked s None = Err fault.BadArgument

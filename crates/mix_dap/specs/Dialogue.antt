@@ -16,13 +16,12 @@ use Rattle.dap_stream.specs.Talk.{Talks}
 use Rattle.dap_stream.specs.declared.broken.Broken.{Broken}
 use Rattle.dap_stream.specs.declared.broken.Broken.TheVariants as broken
 use Rattle.dap_stream.specs.declared.hear.Heard.TheVariants as heard
-use Rattle.mix_dap.specs.Answer.{HasTexts, launch_shown, launch_told}
+use Rattle.mix_dap.specs.Answer.{HasTexts, LaunchTells}
 use Rattle.mix_dap.specs.Before.{AskedShows, IsLaunch, client_after}
 use Rattle.mix_dap.specs.Capabilities.{unknown_client}
-use Rattle.mix_dap.specs.Events.{AddsAnswer, Sends}
+use Rattle.mix_dap.specs.Events.{Sends}
 use Rattle.mix_dap.specs.Launched.{launched_of}
 use Rattle.mix_dap.specs.Output.{none_told}
-use Rattle.mix_dap.specs.Replies.{answer_message}
 use Rattle.mix_dap.specs.Served.{AdapterServes}
 use Rattle.mix_dap.specs.Texts.{AreTexts, Known}
 use Rattle.mix_dap.specs.declared.adapter.Adapter.{Adapter}
@@ -59,7 +58,7 @@ at_first = (waiting unknown_client, 0)
 -- it is answered, and what belongs to its answer is told
 abbrev pub Opens : Request → Texts → List Data → ℕ → ℕ → Type 0
 Opens request texts told before last = Launches request texts
-    × Sends told before last (λ old new. AddsAnswer (answer_message request (launch_shown (launched_of texts))) (launch_told texts) old new)
+    × Sends told before last (λ old new. LaunchTells request texts old new)
 
 -- another request is answered
 abbrev pub Replied : Asked → Request → List Data → ℕ → ℕ → Type 0

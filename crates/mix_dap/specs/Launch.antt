@@ -1,7 +1,6 @@
 -- What a launch loads: the machine of a source, with the units of a deck, the cards of a text, and what another gives to be typed; or the fault of the
 -- first text that is at fault.
 use Rattle.std.specs.Prelude.{ℕ, List, Option, None, Some, Result, Ok, Err}
-use Rattle.mixal_text.specs.Steps.{◌>>=◌}
 use Rattle.mixal_asm.specs.Assembly.{assembly}
 use Rattle.mixal_asm.specs.Program.{ProgramValue}
 use Rattle.mixal_asm.specs.declared.fault.AsmFault.{AsmFault}
@@ -11,6 +10,7 @@ use Rattle.mix_machine.specs.declared.units.deck_fault.DeckFault.{DeckFault}
 use Rattle.mix_session.specs.Session.{SessionState, opened}
 use Rattle.dap_asked.specs.declared.fault.Fault.{Fault}
 use Rattle.dap_asked.specs.declared.fault.Fault.TheVariants as fault
+use Rattle.mixal_text.specs.Steps.{◌>>=◌}
 
 abbrev pub or_source : Result ProgramValue AsmFault → Result ProgramValue Fault
 or_source (Ok program) = Ok program

@@ -1,32 +1,25 @@
 -- What a request of a launched program does: one row for each kind of request.
-use Rattle.std.specs.Prelude.{◌^◌, ℕ, List, [], ◌∷◌, ◌++◌, codes, string_bytes, Bool, true, false, Option, None, Some, Result, Ok, Err, nat_lt, if◌then◌else◌}
-use Rattle.std.specs.Str.Lossy.{utf8_lossy}
-use Rattle.serde_json.specs.Data.{Data, null}
+use Rattle.std.specs.Prelude.{◌^◌, ℕ, List, [], ◌∷◌, ◌++◌, codes, string_bytes, Option, None, Some, Result, Ok, Err, nat_lt, if◌then◌else◌, Bool, true, false}
 use Rattle.mix_word.specs.Word.{WordValue}
 use Rattle.mix_word.specs.declared.register.Reg.TheVariants as reg
 use Rattle.mix_machine.specs.World.{register_of}
 use Rattle.mix_machine.specs.declared.fault.MixFault.{MixFault}
-use Rattle.mix_session.specs.Answer.{text_of}
 use Rattle.mix_session.specs.Command.{Effect, after, effect_of}
-use Rattle.mix_session.specs.Session.{SessionState}
 use Rattle.mix_session.specs.Timeline.{Timeline, world_of}
 use Rattle.mix_session.specs.declared.answer.Answer.{Answer}
 use Rattle.mix_session.specs.declared.request.Request.TheVariants as ask
 use Rattle.dap_message.specs.Request.{text_of as text_in}
 use Rattle.dap_message.specs.declared.request.Request.{Request}
-use Rattle.mix_dap.specs.Answer.{shown_of, continued, value_body, result_body, worth_body, line_body}
-use Rattle.mix_dap.specs.Capabilities.{capabilities}
-use Rattle.dap_views.specs.Given.{given_told}
-use Rattle.mix_dap.specs.Console.{line_meant, said_of}
+use Rattle.mix_dap.specs.Console.{is_said, line_meant}
 use Rattle.dap_asked.specs.Deed.{deed_of, effect_of_deed, is_line, line_deed}
 use Rattle.mix_dap.specs.Events.{Event, beginning, invalidated, stopped, terminated}
 use Rattle.mix_dap.specs.Leaves.{refusal_in}
 use Rattle.mix_dap.specs.Output.{all_told, outputs}
-use Rattle.dap_points.specs.Points.{PointsState, none_set, points_after, points_told}
+use Rattle.mix_dap.specs.Replies.{Outcome, denied, looked, served}
+use Rattle.dap_points.specs.Points.{PointsState, points_after}
 use Rattle.mix_dap.specs.Runs.{word_at}
-use Rattle.mix_dap.specs.Stopped.{end_of, fault_at, fault_in, only, why_of}
-use Rattle.dap_asked.specs.Value.{evaluated, number_asked, value_asked, worth_asked}
-use Rattle.dap_points.specs.Written.{bytes_written, with_cells, write_asked}
+use Rattle.mix_dap.specs.Stopped.{end_of, fault_at, only, why_of}
+use Rattle.dap_points.specs.Written.{with_cells, write_asked}
 use Rattle.mix_dap.specs.declared.adapter.Adapter.{Adapter}
 use Rattle.mix_dap.specs.declared.adapter.Then.{Then}
 use Rattle.mix_dap.specs.declared.adapter.Then.TheVariants as then
@@ -54,8 +47,8 @@ pub record Reaction : Type 0 where
   pub fault : Option MixFault
   -- how many rows are told of the units that write them
   pub printed : Printed
-  -- the one response: with this, or a refusal
-  pub body : Result Data Fault
+  -- how it is answered, by the one response
+  pub outcome : Outcome
   -- the events after it, in this order
   pub events : List Event
   -- a run, or the end of the talk, or nothing
@@ -79,7 +72,7 @@ stays b t = record {
   points = b.points;
   fault = b.fault;
   printed = b.printed;
-  body = Ok null;
+  outcome = served;
   events = [];
   later = then.Wait;
 }
@@ -89,7 +82,7 @@ still a = stays (beside a) a.session.timeline
 
 -- it is refused, and everything is as it was
 abbrev pub refuses : Adapter → Fault → Reaction
-refuses a why = record (still a) { body = Err why }
+refuses a why = record (still a) { outcome = denied why }
 
 -- the program runs from its beginning, unless the launch asked to stop there
 abbrev pub begun : Opening → Then
@@ -101,7 +94,7 @@ begun opening.Free = then.Run (way.Forth None)
 abbrev pub return_location : ℕ → Option ℕ
 return_location n = if nat_lt n (2 ^ 16) then Some n else None
 
--- ---- an act that the session has answered so, which is then in this state
+-- ---- an act that the session has answered so, and what is there then
 
 -- a step, forwards or backwards
 abbrev pub stepped : Answer → Beside → Timeline → Reaction
@@ -111,73 +104,69 @@ stepped answer b t = record (stays b t) {
   events = outputs b.printed (world_of t) ++ stopped (why_of (word_at b.points t) (end_of answer)) ∷ [];
 }
 
-abbrev pub acted : Act → Answer → Request → Beside → SessionState → Reaction
-acted act.Step answer r b s = stepped answer b s.timeline
-acted act.StepBack answer r b s = stepped answer b s.timeline
-acted act.Continue answer r b s = record (stays b s.timeline) { fault = None; body = Ok continued; later = then.Run (way.Forth None) }
-acted act.StepOut answer r b s =
-    record (stays b s.timeline) { fault = None; later = then.Run (way.Forth (return_location (register_of (world_of s.timeline) reg.J).magnitude)) }
-acted act.ReverseContinue answer r b s = record (stays b s.timeline) { fault = None; later = then.Run way.Back }
-acted act.Begin answer r b s = record (stays b s.timeline) { fault = None; events = beginning b.opening; later = begun b.opening }
-acted act.Goto answer r b s = record (stays b s.timeline) { events = stopped (only (codes "goto")) ∷ [] }
-acted act.SetVariable answer r b s = record (stays b s.timeline) { body = Ok (value_body (value_asked (world_of s.timeline) r)); events = invalidated b.client }
-acted act.SetExpression answer r b s = record (stays b s.timeline) { body = Ok (value_body (worth_asked s r)); events = invalidated b.client }
-acted act.Evaluate answer r b s = record (stays b s.timeline) { body = Ok (worth_body (evaluated s r) (number_asked s r)) }
+abbrev pub acted : Act → Answer → Beside → Timeline → Reaction
+acted act.Step answer b t = stepped answer b t
+acted act.StepBack answer b t = stepped answer b t
+acted act.Continue answer b t = record (stays b t) { fault = None; later = then.Run (way.Forth None) }
+acted act.StepOut answer b t =
+    record (stays b t) { fault = None; later = then.Run (way.Forth (return_location (register_of (world_of t) reg.J).magnitude)) }
+acted act.ReverseContinue answer b t = record (stays b t) { fault = None; later = then.Run way.Back }
+acted act.Begin answer b t = record (stays b t) { fault = None; events = beginning b.opening; later = begun b.opening }
+acted act.Goto answer b t = record (stays b t) { events = stopped (only (codes "goto")) ∷ [] }
+acted act.SetVariable answer b t = record (stays b t) { events = invalidated b.client }
+acted act.SetExpression answer b t = record (stays b t) { events = invalidated b.client }
+acted act.Evaluate answer b t = stays b t
 
 -- unless the session refuses it
-abbrev pub unless : Option Fault → Act → Effect → Request → Adapter → Reaction
-unless None act effect r a = acted act effect.answer r (beside a) (record { program = a.session.program; timeline = after effect })
-unless (Some why) act effect r a = refuses a why
+abbrev pub unless : Option Fault → Act → Effect → Adapter → Reaction
+unless None act effect a = acted act effect.answer (beside a) (after effect)
+unless (Some why) act effect a = refuses a why
 
-abbrev pub deed_done : Act → Deed → Request → Adapter → Reaction
-deed_done act deed r a = unless (refusal_in (effect_of_deed deed a.session.timeline)) act (effect_of_deed deed a.session.timeline) r a
+abbrev pub deed_done : Act → Deed → Adapter → Reaction
+deed_done act deed a = unless (refusal_in (effect_of_deed deed a.session.timeline)) act (effect_of_deed deed a.session.timeline) a
 
 -- or it asks for nothing that is there
-abbrev pub asked_done : Act → Result Deed Fault → Request → Adapter → Reaction
-asked_done act (Ok deed) r a = deed_done act deed r a
-asked_done act (Err why) r a = refuses a why
+abbrev pub asked_done : Act → Result Deed Fault → Adapter → Reaction
+asked_done act (Ok deed) a = deed_done act deed a
+asked_done act (Err why) a = refuses a why
 
 -- ---- a line of the console
 
--- something is only said of it
-abbrev pub said : List ℕ → Adapter → Reaction
-said text a = record (still a) { body = Ok (result_body (utf8_lossy text)) }
-
--- the line of a script that it stands for, which the session has answered so
-abbrev pub replied : List ℕ → Answer → Beside → SessionState → Reaction
-replied line answer b s = record (stays b s.timeline) {
+-- the line of a script that it stands for, which the session has answered, with this timeline then
+abbrev pub replied : Beside → Timeline → Reaction
+replied b t = record (stays b t) {
   fault = None;
-  printed = all_told (world_of s.timeline);
-  body = Ok (line_body (utf8_lossy line) (utf8_lossy (text_of answer s.program s.timeline)) (fault_in answer));
-  events = outputs b.printed (world_of s.timeline) ++ invalidated b.client;
+  printed = all_told (world_of t);
+  events = outputs b.printed (world_of t) ++ invalidated b.client;
 }
 
 -- unless it is refused
-abbrev pub replied_unless : Option Fault → List ℕ → Effect → Adapter → Reaction
-replied_unless None line effect a = replied line effect.answer (beside a) (record { program = a.session.program; timeline = after effect })
-replied_unless (Some why) line effect a = refuses a why
+abbrev pub replied_unless : Option Fault → Effect → Adapter → Reaction
+replied_unless None effect a = replied (beside a) (after effect)
+replied_unless (Some why) effect a = refuses a why
 
-abbrev pub line_done : Result Deed Fault → List ℕ → Adapter → Reaction
-line_done (Ok deed) line a = replied_unless (refusal_in (effect_of_deed deed a.session.timeline)) line (effect_of_deed deed a.session.timeline) a
-line_done (Err why) line a = refuses a why
+abbrev pub line_done : Result Deed Fault → Adapter → Reaction
+line_done (Ok deed) a = replied_unless (refusal_in (effect_of_deed deed a.session.timeline)) (effect_of_deed deed a.session.timeline) a
+line_done (Err why) a = refuses a why
 
-abbrev pub said_or_done : Option (List ℕ) → List ℕ → Adapter → Reaction
-said_or_done (Some text) line a = said text a
-said_or_done None line a = line_done (line_deed a.session line) line a
+-- what is only said alters nothing
+abbrev pub said_or_done : Bool → List ℕ → Adapter → Reaction
+said_or_done true line a = still a
+said_or_done false line a = line_done (line_deed a.session line) a
 
 abbrev pub console : Option (List ℕ) → Adapter → Reaction
 console None a = refuses a fault.BadArgument
-console (Some typed) a = said_or_done (said_of a.session typed) (line_meant a.session typed) a
+console (Some typed) a = said_or_done (is_said a.session typed) (line_meant a.session typed) a
 
 -- an act, or a line of the console
 abbrev pub acts : Act → Request → Adapter → Reaction
-acts act r a = if is_line act r then console (text_in r (codes "expression")) a else asked_done act (deed_of act r a.session) r a
+acts act r a = if is_line act r then console (text_in r (codes "expression")) a else asked_done act (deed_of act r a.session) a
 
 -- ---- the rows
 
 abbrev pub written : Result (List (ℕ × WordValue) × ℕ) Fault → Adapter → Reaction
 written (Ok asked) a =
-    record (stays (beside a) (with_cells a.session.timeline asked.0)) { body = Ok (bytes_written asked.1); events = invalidated a.client }
+    record (stays (beside a) (with_cells a.session.timeline asked.0)) { events = invalidated a.client }
 written (Err why) a = refuses a why
 
 -- the first state again
@@ -195,16 +184,11 @@ points_set opening.Stops target r a = points_after target a.session (string_byte
 points_set opening.Runs target r a = points_after target a.session (string_bytes a.name) a.client.first r a.points
 points_set opening.Free target r a = a.points
 
-abbrev pub points_answer : Opening → Target → Request → Adapter → Data
-points_answer opening.Stops target r a = points_told target a.session (string_bytes a.name) a.client.first r
-points_answer opening.Runs target r a = points_told target a.session (string_bytes a.name) a.client.first r
-points_answer opening.Free target r a = none_set target r
-
 abbrev pub reaction : Kind → Request → Adapter → Reaction
-reaction kind.Initialize r a = record (still a) { body = Ok capabilities }
-reaction (kind.Look look) r a = record (still a) { body = shown_of look r a }
-reaction (kind.Given given) r a = record (still a) { body = given_told given r }
-reaction (kind.Points target) r a = record (still a) { points = points_set a.opening target r a; body = Ok (points_answer a.opening target r a) }
+reaction kind.Initialize r a = still a
+reaction (kind.Look look) r a = record (still a) { outcome = looked }
+reaction (kind.Given given) r a = record (still a) { outcome = looked }
+reaction (kind.Points target) r a = record (still a) { points = points_set a.opening target r a }
 reaction kind.Pause r a = record (still a) { events = stopped (only (codes "pause")) ∷ [] }
 reaction kind.Terminate r a = record (still a) { events = terminated ∷ [] }
 reaction kind.Restart r a = restarted (beside a) (after (effect_of a.session.timeline ask.BackAll))

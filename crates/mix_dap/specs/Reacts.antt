@@ -1,5 +1,5 @@
 -- What happens where a request is received: its reaction, and then a run, if there is to be one; and what is kept.
-use Rattle.std.specs.Prelude.{◌≡◌, ◌⊎◌, [], ◌∷◌, ◌++◌, Bool, true, false, Option, Result, Ok, Err}
+use Rattle.std.specs.Prelude.{◌≡◌, ◌⊎◌, ◌++◌, Option, Result, Ok, Err}
 use Rattle.serde_json.specs.Data.{Data}
 use Rattle.mix_refused.specs.declared.refused.Refused.{Refused}
 use Rattle.mix_refused.specs.declared.refused.Refused.TheVariants as refused
@@ -18,7 +18,7 @@ use Rattle.mix_dap.specs.Ended.{end_told}
 use Rattle.mix_dap.specs.Output.{all_told, outputs}
 use Rattle.dap_points.specs.Points.{PointsState}
 use Rattle.mix_dap.specs.Reaction.{Reaction, reaction, reaction_to}
-use Rattle.mix_dap.specs.Replies.{answer_message}
+use Rattle.mix_dap.specs.Replies.{AddsReply, Denies, Refusal, Serves, Fits, answer_message}
 use Rattle.mix_dap.specs.Runs.{Ran, fault_ran, why_ran}
 use Rattle.dap_points.specs.Written.{WrittenSome, write_asked}
 use Rattle.mix_dap.specs.declared.adapter.Adapter.{Adapter}
@@ -31,15 +31,10 @@ use Rattle.dap_asked.specs.declared.fault.Fault.{Fault}
 use Rattle.dap_asked.specs.declared.kind.Kind.{Kind}
 use Rattle.dap_asked.specs.declared.kind.Kind.TheVariants as kind
 
--- whether it is done
-abbrev pub is_done : Result Data Fault → Bool
-is_done (Ok body) = true
-is_done (Err why) = false
-
--- An adapter is left so, this comes then, and the response and the events are told.
+-- It is not refused, an adapter is left so, this comes then, and the response and the events are told.
 abbrev pub Answered : Reaction → Request → Adapter → Then → Outbox → Outbox → Type 0
-Answered x r b later old new = (is_done x.body ≡ true) × (b.session.timeline ≡ x.timeline) × (b.points ≡ x.points) × (b.fault ≡ x.fault)
-    × (b.printed ≡ x.printed) × (later ≡ x.later) × AddsAnswer (answer_message r x.body) x.events old new
+Answered x r b later old new = Serves x.outcome × (b.session.timeline ≡ x.timeline) × (b.points ≡ x.points) × (b.fault ≡ x.fault)
+    × (b.printed ≡ x.printed) × (later ≡ x.later) × AddsReply r x.events old new
 
 -- all is as it was, but that the timeline was looked at
 abbrev pub IsSame : Adapter → Adapter → Type 0
@@ -48,7 +43,7 @@ IsSame a b = (b.session.timeline ≡ a.session.timeline) × (b.points ≡ a.poin
 -- A refusal is not told yet; for want of memory it is neither.
 abbrev pub AnsweredOr : Reaction → Request → Adapter → Adapter → Outbox → Outbox → Result Then (Refused Fault) → Type 0
 AnsweredOr x r a b old new (Ok later) = Answered x r b later old new
-AnsweredOr x r a b old new (Err (refused.Fault why)) = (x.body ≡ Err why) × IsSame a b × (new ≡ old)
+AnsweredOr x r a b old new (Err (refused.Fault why)) = Denies x.outcome why × IsSame a b × (new ≡ old)
 AnsweredOr x r a b old new (Err refused.Memory) = Unit {0}
 
 -- A run that has ended so, or memory was refused for it, is told: the rows that it wrote or took back, and why it stops.
@@ -70,20 +65,23 @@ flow_after then.Wait = flow.On
 flow_after (then.Run way) = flow.On
 flow_after then.End = flow.Over
 
-abbrev pub flow_of : Result Data Fault → Then → Flow
+abbrev pub flow_of : Result Data Refusal → Then → Flow
 flow_of (Ok body) later = flow_after later
-flow_of (Err why) later = flow.Refused why
+flow_of (Err refusal) later = flow.Refused refusal.why
 
 -- A request is answered or refused, and then the program runs, if it is to.
 pub record ReactsAs (x : Reaction) (r : Request) (how : Flow) (b : Adapter) (old new : Outbox) : Type 0 where
-  pub flow : how ≡ flow_of x.body x.later
+  -- the one response: of this body, or a refusal
+  pub body : Result Data Refusal
+  pub fits : Fits x.outcome body
+  pub flow : how ≡ flow_of body x.later
   pub mid : Adapter
   pub between : Outbox
   pub timeline : mid.session.timeline ≡ x.timeline
   pub points : mid.points ≡ x.points
   pub fault : mid.fault ≡ x.fault
   pub printed : mid.printed ≡ x.printed
-  pub told : AddsAnswer (answer_message r x.body) x.events old between
+  pub told : AddsAnswer (answer_message r body) x.events old between
   pub goes : GoesOn x.later mid b between new
 
 abbrev pub Reacts : Request → Adapter → Flow → Adapter → Outbox → Outbox → Type 0

@@ -72,19 +72,6 @@ fault_at ends.Limit = None
 fault_at ends.Start = None
 fault_at (ends.Fault fault) = Some fault
 
--- the fault that has ended the steps of an answer, if one has
-abbrev pub fault_in : Answer → Option MixFault
-fault_in (answers.Ran count end) = fault_at end
-fault_in answers.Nothing = None
-fault_in (answers.Traced count end) = fault_at end
-fault_in (answers.Back count) = None
-fault_in (answers.BackUntil count) = None
-fault_in (answers.Forth count) = None
-fault_in (answers.ForthUntil count) = None
-fault_in answers.Done = None
-fault_in (answers.Shows topic) = None
-fault_in (answers.Refused refusal) = None
-
 -- what ends a step, by the answer of the session to it; what is no step has come to what was asked
 abbrev pub end_of : Answer → End
 end_of (answers.Ran count end) = end

@@ -1,16 +1,13 @@
 //! The adapter of a program that was launched.
 
-ghost use Rattle.std.specs.Prelude.{◌≡◌, IfErr, IfOk, IfNone, IfSome, IsErr, OnErr, OnOk, Ok};
-ghost use Rattle.dap_message.specs.Message.{refusal_message, Adds};
+ghost use Rattle.std.specs.Prelude.{◌≡◌, IfOk, IfNone, IfSome, IsErr, OnErr, OnOk, Ok};
 ghost use Rattle.dap_asked.specs.Kind.{kind_asked};
-ghost use Rattle.mix_dap.specs.Answer.{HasTexts, launch_shown, launch_told};
-ghost use Rattle.mix_dap.specs.Events.{AddsAnswer};
-ghost use Rattle.dap_asked.specs.Fault.{fault_number, fault_text, fault_place};
+ghost use Rattle.mix_dap.specs.Answer.{HasTexts, LaunchTells};
+ghost use Rattle.dap_asked.specs.Fault.{Refuses};
 ghost use Rattle.mix_dap.specs.Launched.{launched_of};
 ghost use Rattle.mix_dap.specs.Output.{none_told};
 ghost use Rattle.mix_dap.specs.Reaction.{reaction};
 ghost use Rattle.mix_dap.specs.Reacts.{GoesOn, KeepsSaid, Leaving, Reacts, ReactsAs, ReactsPartly, RunsPartly, flow_after};
-ghost use Rattle.mix_dap.specs.Replies.{answer_message};
 
 mod act;
 mod answer;
@@ -112,7 +109,7 @@ impl Adapter {
         ensures texts { IfOk result (λ o. IfSome o (λ a. HasTexts a texts)) }
         ensures client { IfOk result (λ o. IfSome o (λ a. a.client ≡ waiting.now.client)) }
         ensures printed { IfOk result (λ o. IfSome o (λ a. a.printed ≡ none_told)) }
-        ensures prints { OnOk result (AddsAnswer (answer_message request.now (launch_shown (launched_of texts))) (launch_told texts) out.old out.new) }
+        ensures prints { OnOk result (LaunchTells request.now texts out.old out.new) }
     {
         let session = match session_of(alloc, &texts) {
             Ok(session) => session,
@@ -198,7 +195,7 @@ impl Adapter {
     // A request is refused, for this reason.
     fn refuse(&self, request: &Request, fault: Fault, out: &mut Outbox) -> Result<Flow, Memory>
         ensures flow { IfOk result (λ flow. flow ≡ Flow.Refused fault) }
-        ensures told { OnOk result (Adds out.old out.new (λ seq. refusal_message seq request.now (fault_number fault) (fault_text fault) (fault_place fault))) }
+        ensures told { OnOk result (Refuses request.now fault out.old out.new) }
     {
         refuse(self.alloc, request, fault, out)?;
         Ok(Flow::Refused(fault))

@@ -1,14 +1,11 @@
 //! What the adapter can do, and what the client is like.
 
-ghost use Rattle.std.specs.Prelude.{◌≡◌, IfOk, OnOk, map};
-ghost use Rattle.serde_json.specs.View.{view};
-ghost use Rattle.dap_message.specs.Fields.{members_in};
-ghost use Rattle.mix_dap.specs.Capabilities.{put_abilities, put_filters, capabilities, conflict_filter, asked_flag, first_by, client_of, unknown_client};
+ghost use Rattle.std.specs.Prelude.{◌≡◌};
+ghost use Rattle.mix_dap.specs.Capabilities.{asked_flag, first_by, client_of, unknown_client};
 
-use dap_asked::add;
 use dap_message::{Fields, Request};
 use mix_refused::Memory;
-use serde_json::Value;
+use serde_json::{Value, json};
 use std::alloc::Global;
 
 const ABLE: [&str; 19] = [
@@ -33,46 +30,20 @@ const ABLE: [&str; 19] = [
     "supportsSteppingGranularity",
 ];
 
-/// What `initialize` is answered.
-pub(crate) fn capabilities(alloc: Global) -> Result<Value, Memory>
-    ensures { IfOk result (λ v. view v ≡ capabilities) }
-{
+/// What `initialize` is answered. The filter is that of steps that conflict with a transfer under way, which is off at first.
+pub(crate) fn capabilities(alloc: Global) -> Result<Value, Memory> {
     let mut body = Fields::new(alloc);
-    put_abilities(&mut body, &ABLE)?;
-    put_filters(alloc, &mut body)?;
-    Ok(body.done())
-}
-
-fn put_filters(alloc: Global, body: &mut Fields) -> Result<(), Memory>
-    ensures { OnOk result (members_in body.new ≡ put_filters (members_in body.old)) }
-{
-    let mut filters = Vec::new(alloc);
-    add(&mut filters, conflict_filter(alloc)?)?;
-    body.list("exceptionBreakpointFilters", filters)
-}
-
-// The filter of steps that conflict with a transfer under way, which is off at first.
-fn conflict_filter(alloc: Global) -> Result<Value, Memory>
-    ensures { IfOk result (λ v. view v ≡ conflict_filter) }
-{
-    let mut filter = Fields::new(alloc);
-    filter.text("filter", "conflict")?;
-    filter.text("label", "Conflicts with a transfer under way")?;
-    filter.text(
-        "description",
-        "A run stops at a step that uses a cell which a transfer under way forbids.",
-    )?;
-    filter.flag("default", false)?;
-    Ok(filter.done())
-}
-
-fn put_abilities(body: &mut Fields, names: &[&str]) -> Result<(), Memory>
-    ensures { OnOk result (members_in body.new ≡ put_abilities (map (λ name. name.now) names.now) (members_in body.old)) }
-{
-    for name in names {
+    for name in ABLE.iter() {
         body.flag(name, true)?;
     }
-    Ok(())
+    let filters = json!(in alloc; [{
+        "filter": "conflict",
+        "label": "Conflicts with a transfer under way",
+        "description": "A run stops at a step that uses a cell which a transfer under way forbids.",
+        "default": false
+    }])?;
+    body.put("exceptionBreakpointFilters", filters)?;
+    Ok(body.done())
 }
 
 /// What the client says of itself: the number of its first line and that of its first column, each 0 or 1, and whether it hears that what it shows

@@ -1,8 +1,7 @@
 //! What a line of the console says: a line of a script, or the words that a person types at a prompt.
 
-ghost use Rattle.std.specs.Prelude.{◌≡◌, IfOk};
-ghost use Rattle.std.specs.Option.{option_map};
-ghost use Rattle.mix_dap.specs.Console.{is_command, is_script, line_meant, said_of};
+ghost use Rattle.std.specs.Prelude.{◌≡◌, IfOk, is_some};
+ghost use Rattle.mix_dap.specs.Console.{is_command, is_said, is_script, line_meant};
 ghost use Rattle.dap_asked.specs.Deed.{is_console_of, is_line};
 
 use dap_asked::Act;
@@ -45,7 +44,7 @@ pub(crate) fn said_of(
     session: &Session,
     typed: &[u8],
 ) -> Result<Option<Vec<u8>>, Memory>
-    ensures { IfOk result (λ said. option_map (λ text. text.items) said ≡ said_of session.now typed.now) }
+    ensures { IfOk result (λ said. is_some said ≡ is_said session.now typed.now) }
 {
     if is_script(session, typed) {
         return Ok(None);

@@ -2,12 +2,10 @@
 
 ghost use Rattle.std.specs.Prelude.{◌≡◌, IfOk, Ok, Err};
 ghost use Rattle.std.specs.Option.{option_map};
-ghost use Rattle.serde_json.specs.Data.{null};
 ghost use Rattle.mixal_asm.specs.Assembly.{assembly};
 ghost use Rattle.mix_machine.specs.units.deck.Deck.{deck_of};
 ghost use Rattle.mix_refused.specs.Refused.{IfFault};
-ghost use Rattle.mix_dap.specs.Answer.{launch_shown};
-ghost use Rattle.mix_dap.specs.Launch.{launched, or_source, or_deck, units_launched, cards_launched, typed_launched};
+ghost use Rattle.mix_dap.specs.Launch.{or_source, or_deck, units_launched, cards_launched, typed_launched};
 ghost use Rattle.mix_dap.specs.Launched.{deck_in, launched_of, source_of};
 
 use crate::launch::Texts;
@@ -24,8 +22,6 @@ use std::alloc::Global;
 pub(crate) fn session_of(alloc: Global, texts: &Texts) -> Result<Session, Refused<Fault>>
     ensures ok { IfOk result (λ s. launched_of texts.now ≡ Ok s) }
     ensures fault { IfFault result (λ f. launched_of texts.now ≡ Err f) }
-    ensures done { IfOk result (λ _. launch_shown (launched_of texts.now) ≡ Ok null) }
-    ensures refused { IfFault result (λ f. launch_shown (launched_of texts.now) ≡ Err f) }
 {
     let program = program_of(alloc, source_of(texts))?;
     let (cards, typed) = (texts.cards.as_deref(), texts.typed.as_deref());

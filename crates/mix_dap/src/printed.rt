@@ -1,7 +1,7 @@
 //! What the units 17 to 20 have written, told as it comes.
 #![tactic(auto, using(crate::proofs::EventLemmas::events))]
 
-ghost use Rattle.std.specs.Prelude.{◌≡◌, ◌<◌, ◌-◌, ◌∷◌, [], IfOk, OnOk, None, codes, drop, length, map, slice_index_or, string_bytes};
+ghost use Rattle.std.specs.Prelude.{◌≡◌, ◌<◌, ◌∷◌, [], IfOk, OnOk, None, codes, drop, length, map, slice_index_or, string_bytes};
 ghost use Rattle.mix_machine.specs.World.{unit_at};
 ghost use Rattle.mix_dap.specs.Events.{AddsEvents};
 ghost use Rattle.mix_dap.specs.Output.{all_told, none_told, output, outputs, row_line, row_output, taken_line, taken_output, unit_outputs};

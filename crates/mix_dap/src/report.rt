@@ -1,11 +1,9 @@
 //! What there is to say of the source of a launch, told to its client.
 
-ghost use Rattle.std.specs.Prelude.{[], ◌∷◌, OnOk, codes, string_bytes};
+ghost use Rattle.std.specs.Prelude.{[], ◌∷◌, OnOk, codes};
 ghost use Rattle.std.specs.Str.Lossy.{utf8_lossy};
-ghost use Rattle.mix_check.specs.Report.{report};
-ghost use Rattle.mix_dap.specs.Answer.{report_told};
+ghost use Rattle.mix_dap.specs.Answer.{TellsReport, report_told};
 ghost use Rattle.mix_dap.specs.Events.{AddsEvents};
-ghost use Rattle.mix_dap.specs.Launched.{source_of};
 ghost use Rattle.mix_dap.specs.Output.{output};
 
 use crate::launch::Texts;
@@ -16,12 +14,14 @@ use mix_refused::Memory;
 use std::alloc::Global;
 
 /// Tells the faults and the warnings of the source, as `mixrev check` writes them.
+#[tactic(auto, using(crate::proofs::EventLemmas::reporting))]
 pub(crate) fn tell_report(alloc: Global, texts: &Texts, out: &mut Outbox) -> Result<(), Memory>
-    ensures { OnOk result (AddsEvents (report_told (report (string_bytes texts.now.name) (source_of texts.now))) out.old out.new) }
+    ensures { OnOk result (TellsReport out.old out.new) }
 {
     let mut text = Vec::new(alloc);
     add_report(alloc, texts.name.as_str(), source_of(texts), &mut text)?;
-    tell_text(alloc, text.as_slice(), out)
+    tell_text(alloc, text.as_slice(), out)?;
+    Ok(())
 }
 
 #[tactic(auto, using(crate::proofs::EventLemmas::events))]

@@ -3,11 +3,9 @@
 
 ghost use Rattle.std.specs.Prelude.{◌≡◌, [], IfNone, IfOk, IfSome, IsErr, OnOk};
 ghost use Rattle.dap_message.specs.Message.{waits};
-ghost use Rattle.mix_dap.specs.Answer.{launch_shown, launch_told};
+ghost use Rattle.mix_dap.specs.Answer.{LaunchTells};
 ghost use Rattle.mix_dap.specs.Dialogue.{BeginsAs, debugs, waiting};
-ghost use Rattle.mix_dap.specs.Events.{AddsAnswer};
 ghost use Rattle.mix_dap.specs.Launched.{launched_of};
-ghost use Rattle.mix_dap.specs.Replies.{answer_message};
 ghost use Rattle.mix_dap.specs.Stage.{StageServes, stage_of};
 
 use crate::adapter::{Adapter, Flow};
@@ -122,7 +120,7 @@ fn opened(
 ) -> Result<Option<Adapter>, Memory>
     ensures begins { IfOk result (λ o. IfSome o (λ a. BeginsAs a texts before.now.client)) }
     ensures refused { IfOk result (λ o. IfNone o (IsErr (launched_of texts))) }
-    ensures prints { OnOk result (AddsAnswer (answer_message request.now (launch_shown (launched_of texts))) (launch_told texts) outbox.old outbox.new) }
+    ensures prints { OnOk result (LaunchTells request.now texts outbox.old outbox.new) }
 {
     Adapter::open(alloc, before, texts, request, outbox)
 }

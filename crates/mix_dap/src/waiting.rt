@@ -4,9 +4,7 @@ ghost use Rattle.std.specs.Prelude.{◌≡◌, [], IfOk, OnOk};
 ghost use Rattle.dap_asked.specs.Kind.{kind_before};
 ghost use Rattle.mix_dap.specs.Before.{LaunchShows, AskedShows, client_after};
 ghost use Rattle.mix_dap.specs.Capabilities.{unknown_client};
-ghost use Rattle.dap_views.specs.Given.{given_told};
-ghost use Rattle.mix_dap.specs.Events.{AddsAnswer};
-ghost use Rattle.mix_dap.specs.Replies.{answer_message};
+ghost use Rattle.mix_dap.specs.Replies.{AddsEither};
 
 use crate::capabilities::{Client, capabilities};
 use crate::event::tell_event;
@@ -15,7 +13,6 @@ use dap_asked::{Fault, Given, Kind, kind_before, nothing, refuse};
 use dap_message::{Outbox, Request};
 use dap_views::given_view;
 use mix_refused::{Memory, Refused};
-use serde_json::Value;
 use std::alloc::Global;
 
 /// An adapter without a launched program.
@@ -119,7 +116,7 @@ impl Waiting {
 
     #[tactic(auto, using(crate::proofs::EventLemmas::answering))]
     fn tell_given(&self, given: Given, request: &Request, out: &mut Outbox) -> Result<(), Memory>
-        ensures { OnOk result (AddsAnswer (answer_message request.now (given_told given request.now)) [] out.old out.new) }
+        ensures { OnOk result (AddsEither request.now [] out.old out.new) }
     {
         match given_view(self.alloc, given, request) {
             Ok(body) => out.reply(request, body),

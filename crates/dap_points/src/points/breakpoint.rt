@@ -4,7 +4,7 @@ ghost use Rattle.std.specs.Prelude.{◌≡◌, map};
 ghost use Rattle.std.specs.Option.{option_map};
 ghost use Rattle.std.specs.List.{list_any};
 ghost use Rattle.serde_json.specs.View.{view};
-ghost use Rattle.dap_points.specs.Breakpoint.{holds, arrives, with_arrival, stops, unless_blank, written_in, condition_in, count_in, breakpoint_at, flaw_text};
+ghost use Rattle.dap_points.specs.Breakpoint.{holds, arrives, with_arrival, stops, unless_blank, written_in, condition_in, count_in, breakpoint_at};
 
 use crate::points::comparison::{Comparison, comparison_in};
 use dap_asked::text_in;
@@ -38,9 +38,7 @@ pub(crate) enum Flaw {
 
 impl Flaw {
     /// As it is told.
-    pub(crate) fn text(self) -> &'static str
-        ensures { result.now ≡ flaw_text self }
-    {
+    pub(crate) fn text(self) -> &'static str {
         match self {
             Flaw::NoWord => "no word from this line on",
             Flaw::NoCell => "no such cell",

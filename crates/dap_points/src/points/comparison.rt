@@ -1,6 +1,6 @@
 //! A condition of a breakpoint: a value, and how it is to compare with another one.
 
-ghost use Rattle.std.specs.Prelude.{◌≡◌, ◌<◌, Some};
+ghost use Rattle.std.specs.Prelude.{◌≡◌, ◌<◌};
 ghost use Rattle.std.specs.Option.{option_map};
 ghost use Rattle.dap_points.specs.Comparison.{after_first_byte, before_last_byte, compared, compares, comparison_in, cut, equal_to, greater_than, less_than, relates, with_sides};
 

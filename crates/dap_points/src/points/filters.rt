@@ -1,10 +1,9 @@
 //! The kinds of exceptions that stop a run, by the names of their filters.
 
-ghost use Rattle.std.specs.Prelude.{◌≡◌, ◌++◌, IfOk, OnOk};
-ghost use Rattle.std.specs.Option.{option_to_list};
+ghost use Rattle.std.specs.Prelude.{◌≡◌};
 ghost use Rattle.serde_json.specs.Find.{as_str};
 ghost use Rattle.serde_json.specs.View.{view};
-ghost use Rattle.dap_points.specs.Points.{filter_point, filter_told, is_conflict_named};
+ghost use Rattle.dap_points.specs.Points.{filter_point, is_conflict_named};
 
 use crate::points::kinds::{PointKind, unverified, verified};
 use mix_refused::Memory;
@@ -20,8 +19,6 @@ impl PointKind for Filters {
     type Point = Condition;
 
     ghost point = { λ _. filter_point };
-
-    ghost told = { λ _ entry. filter_told (filter_point entry) };
 
     fn add(
         &self,

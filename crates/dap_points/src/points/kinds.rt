@@ -5,21 +5,20 @@ ghost use Rattle.std.specs.Option.{option_to_list};
 ghost use Rattle.std.specs.List.{filter_map};
 ghost use Rattle.serde_json.specs.Data.{Data};
 ghost use Rattle.serde_json.specs.View.{view};
-ghost use Rattle.dap_message.specs.Fields.{members_in};
 ghost use Rattle.dap_asked.specs.Entries.{entries_of};
-ghost use Rattle.dap_points.specs.Points.{answer_by, verified, verified_at, unverified, line_asked, line_point, line_told, instruction_cell, instruction_asked, instruction_point, instruction_told, data_point, data_told, none_told};
+ghost use Rattle.dap_points.specs.Points.{line_asked, line_point, instruction_cell, instruction_asked, instruction_point, data_point};
 
 use crate::points::breakpoint::{Breakpoint, Flaw, breakpoint_at};
 use crate::points::line::cell_of_line;
 use dap_asked::{
-    add, cell_of_reference, entries_of, integer_in, line_for, list_alone, number_in, part_named,
-    reference_of, source_line, text_in,
+    cell_of_reference, entries_of, integer_in, line_for, number_in, part_named, reference_of,
+    source_line, text_in,
 };
 use dap_message::{Fields, Request};
 use mix_machine::Place;
 use mix_refused::Memory;
 use mix_session::{Condition, Session};
-use serde_json::Value;
+use serde_json::{Value, json};
 use std::alloc::Global;
 
 /// Breakpoints of one kind.
@@ -30,9 +29,6 @@ pub(crate) trait PointKind {
     // What stands of the one that an entry asks for, if it can stand.
     ghost point: { Self → Data → Option Self.Point };
 
-    // How it is told.
-    ghost told: { Self → Data → Data };
-
     /// Adds what stands of the one that an entry asks for, and gives how it is told.
     fn add(
         &self,
@@ -40,8 +36,7 @@ pub(crate) trait PointKind {
         entry: &Value,
         points: &mut Vec<Self::Point>,
     ) -> Result<Value, Memory>
-        ensures stands { OnOk result (points.new.items ≡ points.old.items ++ option_to_list (point self.now (view entry.now))) }
-        ensures told { IfOk result (λ v. view v ≡ told self.now (view entry.now)) };
+        ensures { OnOk result (points.new.items ≡ points.old.items ++ option_to_list (point self.now (view entry.now))) };
 }
 
 /// What stands of all that a request asks for in the list of a name, and its answer.
@@ -51,16 +46,15 @@ pub(crate) fn set_all<K: PointKind>(
     request: &Request,
     name: &str,
 ) -> Result<(Vec<K::Point>, Value), Memory>
-    ensures stand { IfOk result (λ set. set.0.items ≡ filter_map (K.point kind.now) (entries_of request.now name.now)) }
-    ensures told { IfOk result (λ set. view set.1 ≡ answer_by (K.told kind.now) (entries_of request.now name.now)) }
+    ensures { IfOk result (λ set. set.0.items ≡ filter_map (K.point kind.now) (entries_of request.now name.now)) }
 {
     let mut points = Vec::new(alloc);
     let mut told = Vec::new(alloc);
     let entries = entries_of(request, name);
     for entry in entries {
-        add(&mut told, kind.add(alloc, entry, &mut points)?)?;
+        told.push(kind.add(alloc, entry, &mut points)?)?;
     }
-    Ok((points, list_alone(alloc, "breakpoints", told)?))
+    Ok((points, json!(in alloc; {"breakpoints": told})?))
 }
 
 /// Those of lines of the program, which the client counts from this first one on.
@@ -74,8 +68,6 @@ impl PointKind for Lines<'_> {
     type Point = Breakpoint;
 
     ghost point = { λ kind. line_point kind.session.now kind.first };
-
-    ghost told = { λ kind entry. line_told kind.first (line_asked kind.session.now kind.first entry) };
 
     fn add(
         &self,
@@ -116,8 +108,6 @@ impl PointKind for Instructions<'_> {
     type Point = Breakpoint;
 
     ghost point = { λ kind. instruction_point kind.session.now };
-
-    ghost told = { λ kind entry. instruction_told (instruction_asked kind.session.now entry) };
 
     fn add(
         &self,
@@ -162,8 +152,6 @@ impl PointKind for Parts<'_> {
 
     ghost point = { λ kind. data_point kind.session.now };
 
-    ghost told = { λ kind entry. data_told (data_point kind.session.now entry) };
-
     fn add(
         &self,
         alloc: Global,
@@ -191,8 +179,6 @@ impl PointKind for Unset {
 
     ghost point = { λ _ _. None };
 
-    ghost told = { λ kind. none_told kind.why.now };
-
     fn add(
         &self,
         alloc: Global,
@@ -209,25 +195,19 @@ pub fn never(
     why: &'static str,
     request: &Request,
     name: &str,
-) -> Result<Value, Memory>
-    ensures { IfOk result (λ v. view v ≡ answer_by (none_told why.now) (entries_of request.now name.now)) }
-{
+) -> Result<Value, Memory> {
     let (_, told) = set_all(alloc, &Unset { why }, request, name)?;
     Ok(told)
 }
 
 /// That one stands.
-pub(super) fn verified(alloc: Global) -> Result<Fields, Memory>
-    ensures { IfOk result (λ f. members_in f ≡ verified) }
-{
+pub(super) fn verified(alloc: Global) -> Result<Fields, Memory> {
     let mut fields = Fields::new(alloc);
     fields.flag("verified", true)?;
     Ok(fields)
 }
 
-fn verified_at(alloc: Global, place: Place) -> Result<Fields, Memory>
-    ensures { IfOk result (λ f. members_in f ≡ verified_at place) }
-{
+fn verified_at(alloc: Global, place: Place) -> Result<Fields, Memory> {
     let mut fields = verified(alloc)?;
     let reference = reference_of(alloc, place.number())?;
     fields.text("instructionReference", reference.as_str())?;
@@ -235,11 +215,6 @@ fn verified_at(alloc: Global, place: Place) -> Result<Fields, Memory>
 }
 
 /// Why one does not stand.
-pub(super) fn unverified(alloc: Global, why: &str) -> Result<Value, Memory>
-    ensures { IfOk result (λ v. view v ≡ unverified why.now) }
-{
-    let mut fields = Fields::new(alloc);
-    fields.flag("verified", false)?;
-    fields.text("message", why)?;
-    Ok(fields.done())
+pub(super) fn unverified(alloc: Global, why: &str) -> Result<Value, Memory> {
+    Ok(json!(in alloc; {"verified": false, "message": why})?)
 }

@@ -1,11 +1,8 @@
 //! `mix/change`: a change by its number.
 
-ghost use Rattle.std.specs.Prelude.{◌≡◌, IfOk, OnOk};
-ghost use Rattle.serde_json.specs.Data.{object};
-ghost use Rattle.serde_json.specs.View.{view};
-ghost use Rattle.dap_message.specs.Fields.{members_in};
-ghost use Rattle.dap_views.specs.Change.{change_asked, change_members, change_shown, conflict_if, conflict_shown, put_conflict};
-ghost use Rattle.dap_asked.specs.List.{Shows};
+ghost use Rattle.std.specs.Prelude.{◌≡◌, ◌-◌, Some};
+ghost use Rattle.mix_session.specs.Change.{world_at};
+ghost use Rattle.mix_session.specs.Client.{change_numbered};
 
 mod items;
 
@@ -35,9 +32,7 @@ pub fn change_view(
     alloc: Global,
     session: &Session,
     request: &Request,
-) -> Result<Value, Refused<Fault>>
-    ensures { Shows (change_asked session.now request.now) result }
-{
+) -> Result<Value, Refused<Fault>> {
     let Some(number) = request.number("number") else {
         return Err(Refused::Fault(Fault::BadArgument));
     };
@@ -58,10 +53,9 @@ fn change_shown(
     field: Option<Field>,
     conflicts: bool,
 ) -> Result<Value, Memory>
-    ensures { IfOk result (λ v. view v ≡ change_shown session.now.timeline number field (conflict_if conflicts session.now.timeline number) change) }
+    requires { change_numbered session.now.timeline number ≡ Some change }
 {
     let at = number as usize;
-    let conflict = conflict_if(alloc, conflicts, session, at)?;
     let before = session.world_at(alloc, at.saturating_sub(1))?;
     let after = session.world_at(alloc, at)?;
     let worlds = Worlds {
@@ -69,52 +63,35 @@ fn change_shown(
         after: &after,
         field,
     };
-    change_with(alloc, number, change, &worlds, conflict)
+    change_with(alloc, session, number, change, &worlds, conflicts)
 }
 
-// With what a change conflicts, if that is asked for.
-fn conflict_if(
-    alloc: Global,
-    asked: bool,
-    session: &Session,
-    number: usize,
-) -> Result<Option<Conflict>, Memory>
-    ensures { IfOk result (λ conflict. conflict ≡ conflict_if asked session.now.timeline number) }
-{
-    if asked {
-        session.conflict_after(alloc, number.saturating_sub(1))
-    } else {
-        Ok(None)
-    }
-}
-
+// The change of this number, between the state before it and the one after it.
 fn change_with(
     alloc: Global,
+    session: &Session,
     number: u64,
     change: Change,
     worlds: &Worlds<'_>,
-    conflict: Option<Conflict>,
+    conflicts: bool,
 ) -> Result<Value, Memory>
-    ensures { IfOk result (λ v. view v ≡ object (put_conflict conflict
-        (change_members number worlds.now.field change worlds.now.before.now worlds.now.after.now))) }
+    requires change { change_numbered session.now.timeline number ≡ Some change }
+    requires before { worlds.now.before.now ≡ world_at session.now.timeline (number - 1) }
+    requires after { worlds.now.after.now ≡ world_at session.now.timeline number }
 {
+    let conflict = if conflicts {
+        session.conflict_after(alloc, (number as usize).saturating_sub(1))?
+    } else {
+        None
+    };
     let mut body = change_between(alloc, number, change, worlds)?;
-    put_conflict(alloc, &mut body, conflict)?;
+    if let Some(conflict) = conflict {
+        body.put("conflict", conflict_shown(alloc, conflict)?)?;
+    }
     Ok(body.done())
 }
 
-fn put_conflict(alloc: Global, body: &mut Fields, conflict: Option<Conflict>) -> Result<(), Memory>
-    ensures { OnOk result (members_in body.new ≡ put_conflict conflict (members_in body.old)) }
-{
-    match conflict {
-        None => Ok(()),
-        Some(conflict) => body.put("conflict", conflict_shown(alloc, conflict)?),
-    }
-}
-
-fn conflict_shown(alloc: Global, conflict: Conflict) -> Result<Value, Memory>
-    ensures { IfOk result (λ v. view v ≡ conflict_shown conflict) }
-{
+fn conflict_shown(alloc: Global, conflict: Conflict) -> Result<Value, Memory> {
     let mut body = Fields::new(alloc);
     body.number("cell", u64::from(conflict.cell.number()))?;
     body.number("unit", u64::from(conflict.unit.number()))?;
@@ -134,9 +111,7 @@ pub(crate) fn change_between(
     number: u64,
     change: Change,
     worlds: &Worlds<'_>,
-) -> Result<Fields, Memory>
-    ensures { IfOk result (λ f. members_in f ≡ change_members number worlds.now.field change worlds.now.before.now worlds.now.after.now) }
-{
+) -> Result<Fields, Memory> {
     let mut body = Fields::new(alloc);
     body.number("number", number)?;
     body.number("location", u64::from(worlds.before.loc()))?;

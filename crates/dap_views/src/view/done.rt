@@ -1,9 +1,5 @@
 //! What a change is: a step with its instruction, or a command.
 
-ghost use Rattle.std.specs.Prelude.{◌≡◌, OnOk};
-ghost use Rattle.dap_message.specs.Fields.{members_in};
-ghost use Rattle.dap_views.specs.Change.{change_kind, put_done, put_instruction_here};
-
 use crate::view::decoded::put_instruction;
 use dap_asked::cell_at;
 use dap_message::Fields;
@@ -12,9 +8,7 @@ use mix_refused::Memory;
 use std::alloc::Global;
 
 /// What a change is: a step, or a command by the word with which it begins.
-pub(crate) fn change_kind(change: Change) -> &'static str
-    ensures { result.now ≡ change_kind change }
-{
+pub(crate) fn change_kind(change: Change) -> &'static str {
     match change {
         Change::Step => "step",
         Change::SetReg(..)
@@ -33,9 +27,7 @@ pub(crate) fn put_done(
     body: &mut Fields,
     change: Change,
     before: &World,
-) -> Result<(), Memory>
-    ensures { OnOk result (members_in body.new ≡ put_done change before.now (members_in body.old)) }
-{
+) -> Result<(), Memory> {
     match change {
         Change::Step => put_instruction_here(alloc, body, before),
         _ => Ok(()),
@@ -47,9 +39,7 @@ pub(crate) fn put_instruction_here(
     alloc: Global,
     body: &mut Fields,
     world: &World,
-) -> Result<(), Memory>
-    ensures { OnOk result (members_in body.new ≡ put_instruction_here world.now (members_in body.old)) }
-{
+) -> Result<(), Memory> {
     match cell_at(world) {
         Some(place) => put_instruction(alloc, body, world, world.cell(place)),
         None => Ok(()),

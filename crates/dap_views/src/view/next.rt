@@ -1,17 +1,10 @@
 //! `mix/next`: what one step more would be.
 
-ghost use Rattle.std.specs.Prelude.{◌≡◌, ◌+◌, ℕ, IfOk, IsSome, None, Ok, Option, length};
-ghost use Rattle.serde_json.specs.Data.{object};
-ghost use Rattle.serde_json.specs.View.{view};
-ghost use Rattle.undo_core.specs.Replay.{replay};
-ghost use Rattle.mix_word.specs.Field.{FieldValue};
+ghost use Rattle.std.specs.Prelude.{◌≡◌, IfOk, Err, Ok};
 ghost use Rattle.mix_machine.specs.Do.{does};
-ghost use Rattle.mix_machine.specs.World.{WorldState};
+ghost use Rattle.mix_refused.specs.Refused.{IfFault};
 ghost use Rattle.mix_machine.specs.declared.old.Change.TheVariants.{Step};
-ghost use Rattle.mix_session.specs.Timeline.{Timeline, with_change, world_of};
-ghost use Rattle.dap_views.specs.Change.{change_members, change_shown};
-ghost use Rattle.dap_asked.specs.List.{Shows};
-ghost use Rattle.dap_views.specs.Next.{next_asked, next_refused, next_shown};
+ghost use Rattle.mix_session.specs.Timeline.{world_of};
 
 use crate::view::change::{Worlds, change_between};
 use crate::view::decoded::field_asked;
@@ -31,27 +24,19 @@ pub fn next_view(
     alloc: Global,
     session: &Session,
     request: &Request,
-) -> Result<Value, Refused<Fault>>
-    ensures { Shows (next_asked session.now request.now) result }
-{
+) -> Result<Value, Refused<Fault>> {
     let field = field_asked(request)?;
     Ok(next_shown(alloc, session, field)?)
 }
 
-#[tactic(auto, using(crate::proofs::NextLemmas::machine_now))]
-fn next_shown(alloc: Global, session: &Session, field: Option<Field>) -> Result<Value, Memory>
-    ensures { IfOk result (λ v. view v ≡ next_shown session.now.timeline field) }
-{
-    let done = session.changes().len();
+fn next_shown(alloc: Global, session: &Session, field: Option<Field>) -> Result<Value, Memory> {
     // (no journal has room for one more)
-    let Some(number) = (done as u64).checked_add(1) else {
+    let Some(number) = (session.changes().len() as u64).checked_add(1) else {
         return Err(Memory);
     };
-    let mut after = session.world_at(alloc, done)?;
-    let mut kept = Kept::new(alloc);
     let before = session.world();
-    match after.apply(&Change::Step, &mut kept) {
-        Ok(()) => next_step(
+    match after_step(alloc, session) {
+        Ok(after) => next_step(
             alloc,
             number,
             &Worlds {
@@ -65,15 +50,31 @@ fn next_shown(alloc: Global, session: &Session, field: Option<Field>) -> Result<
     }
 }
 
-fn next_step(alloc: Global, number: u64, worlds: &Worlds<'_>) -> Result<Value, Memory>
-    ensures { IfOk result (λ v. view v ≡ object (change_members number worlds.now.field Step worlds.now.before.now worlds.now.after.now)) }
+// The machine after one step more, which is not done, or the fault that it would meet.
+#[tactic(auto, using(crate::proofs::NextLemmas::machine_now))]
+fn after_step(alloc: Global, session: &Session) -> Result<World, Refused<MixFault>>
+    ensures step { IfOk result (λ after. does (world_of session.now.timeline) Step ≡ Ok after) }
+    ensures fault { IfFault result (λ why. does (world_of session.now.timeline) Step ≡ Err why) }
 {
+    let mut after = session.world_at(alloc, session.changes().len())?;
+    let mut kept = Kept::new(alloc);
+    match after.apply(&Change::Step, &mut kept) {
+        Ok(()) => Ok(after),
+        Err(Refused::Fault(fault)) => Err(Refused::Fault(fault)),
+        Err(Refused::Memory) => Err(Refused::Memory),
+    }
+}
+
+fn next_step(alloc: Global, number: u64, worlds: &Worlds<'_>) -> Result<Value, Memory> {
     Ok(change_between(alloc, number, Change::Step, worlds)?.done())
 }
 
-fn next_refused(alloc: Global, number: u64, world: &World, fault: MixFault) -> Result<Value, Memory>
-    ensures { IfOk result (λ v. view v ≡ next_refused number world.now fault) }
-{
+fn next_refused(
+    alloc: Global,
+    number: u64,
+    world: &World,
+    fault: MixFault,
+) -> Result<Value, Memory> {
     let mut body = Fields::new(alloc);
     body.number("number", number)?;
     body.number("location", u64::from(world.loc()))?;
@@ -83,9 +84,3 @@ fn next_refused(alloc: Global, number: u64, world: &World, fault: MixFault) -> R
     put_instruction_here(alloc, &mut body, world)?;
     Ok(body.done())
 }
-
-/// What `mix/next` tells is what `mix/change` tells of that step when it is done.
-pub fn next_law()
-    ensures { (t : Timeline) (field : Option FieldValue) (v : WorldState) → IsSome (replay does t.first t.changes) → does (world_of t) Step ≡ Ok v →
-        next_shown t field ≡ change_shown (with_change t Step) (length t.changes + 1) field None Step }
-{}

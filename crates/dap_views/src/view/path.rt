@@ -1,17 +1,11 @@
 //! `mix/path`: where the instructions were executed in the course of the changes, column by column.
 
-ghost use Rattle.std.specs.Prelude.{◌≡◌, ◌++◌, ◌∷◌, [], IfOk, OnOk, map};
-ghost use Rattle.serde_json.specs.View.{view};
-ghost use Rattle.mix_session.specs.Path.{count_in, path_at};
-ghost use Rattle.dap_asked.specs.List.{Shows};
-ghost use Rattle.dap_views.specs.Path.{executed_shown, column_shown, path_by, span_asked, path_asked};
-
-use dap_asked::{Fault, Numbered, add, list_alone, list_of};
-use dap_message::{Fields, Request};
+use dap_asked::Fault;
+use dap_message::Request;
 use mix_refused::{Memory, Refused};
 use mix_session::{Session, Span};
 use mix_word::CELLS;
-use serde_json::Value;
+use serde_json::{Value, json};
 use std::alloc::Global;
 
 /// The most columns that are asked for.
@@ -22,127 +16,48 @@ pub fn path_view(
     alloc: Global,
     session: &Session,
     request: &Request,
-) -> Result<Value, Refused<Fault>>
-    ensures { Shows (path_asked session.now request.now) result }
-{
+) -> Result<Value, Refused<Fault>> {
     match span_asked(session, request) {
-        Ok(span) => Ok(path_shown(alloc, session, span)?),
-        Err(why) => Err(Refused::Fault(why)),
+        Some(span) => Ok(path_shown(alloc, session, span)?),
+        None => Err(Refused::Fault(Fault::BadArgument)),
     }
 }
 
-// The range of the changes done that is asked for.
-fn span_asked(session: &Session, request: &Request) -> Result<Span, Fault>
-    ensures { result ≡ span_asked session.now request.now }
-{
-    let columns = request.number("columns").ok_or(Fault::BadArgument)?;
+// The range of the changes done that is asked for, if it has not too many columns.
+fn span_asked(session: &Session, request: &Request) -> Option<Span> {
+    let columns = request.number("columns")?;
     if columns > MAX_COLUMNS {
-        return Err(Fault::BadArgument);
+        return None;
     }
     let done = session.changes().len() as u64;
-    Ok(Span {
+    Some(Span {
         from: request.number("from").unwrap_or(0) as usize,
         until: request.number("until").unwrap_or(done) as usize,
         columns: columns as u16,
     })
 }
 
-fn path_shown(alloc: Global, session: &Session, span: Span) -> Result<Value, Memory>
-    ensures { IfOk result (λ v. view v ≡ path_by span (path_at session.now.timeline span)) }
-{
+fn path_shown(alloc: Global, session: &Session, span: Span) -> Result<Value, Memory> {
     let counts = session.path(alloc, span)?;
-    let shown = path_by(alloc, span, &counts)?;
-    Ok(shown)
-}
-
-fn path_by(alloc: Global, span: Span, counts: &[u64]) -> Result<Value, Memory>
-    ensures { IfOk result (λ v. view v ≡ path_by span (count_in counts.now)) }
-{
-    let columns = list_of(
-        alloc,
-        &Columns {
-            counts,
-            count: span.columns,
-        },
-    )?;
-    let mut body = Fields::new(alloc);
-    body.number("from", span.from as u64)?;
-    body.number("until", span.until as u64)?;
-    body.list("columns", columns)?;
-    Ok(body.done())
-}
-
-/// Columns, of so many.
-#[derive(Clone, Copy)]
-struct Columns<'a> {
-    counts: &'a [u64],
-    count: u16,
-}
-
-impl Numbered for Columns<'_> {
-    ghost size = { λ columns. columns.count };
-
-    ghost shown = { λ columns c. column_shown (count_in columns.counts.now c) ∷ [] };
-
-    fn size(&self) -> u16 {
-        self.count
+    let mut columns = Vec::new(alloc);
+    for column in 0..span.columns {
+        columns.push(column_shown(alloc, &counts, column)?)?;
     }
-
-    fn add(&self, alloc: Global, number: u16, list: &mut Vec<Value>) -> Result<(), Memory> {
-        let cells = list_of(
-            alloc,
-            &Executed {
-                counts: self.counts,
-                column: number,
-            },
-        )?;
-        add(list, list_alone(alloc, "cells", cells)?)
-    }
+    let (from, until) = (span.from as u64, span.until as u64);
+    Ok(json!(in alloc; {"from": from, "until": until, "columns": columns})?)
 }
 
-/// The cells of a column.
-#[derive(Clone, Copy)]
-struct Executed<'a> {
-    counts: &'a [u64],
-    column: u16,
-}
-
-impl Numbered for Executed<'_> {
-    ghost size = { λ _. 4000 };
-
-    ghost shown = { λ cells p. executed_shown (count_in cells.counts.now cells.column p) p };
-
-    fn size(&self) -> u16 {
-        CELLS
+// The cells whose instructions were executed in a column, in rising order, each with how often.
+fn column_shown(alloc: Global, counts: &[u64], column: u16) -> Result<Value, Memory> {
+    let mut list = Vec::new(alloc);
+    for cell in 0..CELLS {
+        let at = usize::from(column) * usize::from(CELLS) + usize::from(cell);
+        match counts.get(at) {
+            Some(count) if *count > 0 => {
+                list.push(json!(in alloc; {"cell": u64::from(cell), "count": *count})?)?;
+            }
+            _ => {}
+        }
     }
-
-    fn add(&self, alloc: Global, number: u16, list: &mut Vec<Value>) -> Result<(), Memory> {
-        add_executed(
-            alloc,
-            list,
-            count_in(self.counts, self.column, number),
-            number,
-        )
-    }
-}
-
-// How often the instruction of a cell was executed in a column.
-fn count_in(counts: &[u64], column: u16, cell: u16) -> u64
-    ensures { result ≡ count_in counts.now column cell }
-{
-    let at = usize::from(column) * usize::from(CELLS) + usize::from(cell);
-    counts.get(at).copied().unwrap_or(0)
-}
-
-// A cell whose instruction was executed.
-fn add_executed(alloc: Global, list: &mut Vec<Value>, count: u64, number: u16) -> Result<(), Memory>
-    ensures { OnOk result (map view list.new.items ≡ map view list.old.items ++ executed_shown count number) }
-{
-    if count == 0 {
-        return Ok(());
-    }
-    let mut cell = Fields::new(alloc);
-    cell.number("cell", u64::from(number))?;
-    cell.number("count", count)?;
-    add(list, cell.done())
+    Ok(json!(in alloc; {"cells": list})?)
 }

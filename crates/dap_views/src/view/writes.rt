@@ -1,14 +1,7 @@
 //! `mix/writes`: the changes that altered a part of the machine, and what it held before and after each.
 
-ghost use Rattle.std.specs.Prelude.{◌≡◌, IfOk, OnOk, length, map, min, take};
-ghost use Rattle.serde_json.specs.View.{view};
-ghost use Rattle.mix_session.specs.Keyword.{indicator_name};
-ghost use Rattle.dap_message.specs.Fields.{members_in};
-ghost use Rattle.dap_asked.specs.List.{Shows};
-ghost use Rattle.dap_views.specs.Writes.{held_shown, put_mark, put_total, write_shown, writes_shown, up_to, writes_asked};
-
 use crate::view::{put_digits, put_register, word_shown};
-use dap_asked::{Fault, add, part_named};
+use dap_asked::{Fault, part_named};
 use dap_message::{Fields, Request};
 use mix_machine::{Cmp, Mark, Part, Word};
 use mix_refused::{Memory, Refused};
@@ -24,9 +17,7 @@ pub fn writes_view(
     alloc: Global,
     session: &Session,
     request: &Request,
-) -> Result<Value, Refused<Fault>>
-    ensures { Shows (writes_asked session.now request.now) result }
-{
+) -> Result<Value, Refused<Fault>> {
     let Some(name) = request.text("part") else {
         return Err(Refused::Fault(Fault::BadArgument));
     };
@@ -51,69 +42,28 @@ fn writes_shown(
     until: usize,
     most: usize,
     total: bool,
-) -> Result<Value, Memory>
-    ensures { IfOk result (λ v. view v ≡ writes_shown session.now.timeline part until most total) }
-{
+) -> Result<Value, Memory> {
     let written = part;
     let writes = session.writes(alloc, part, until, most)?;
-    let list = all_shown(alloc, &written, &writes)?;
     let mut body = Fields::new(alloc);
-    body.list("writes", list)?;
-    put_total(alloc, &mut body, total, session, written, until)?;
+    body.list("writes", all_shown(alloc, &written, &writes)?)?;
+    if total {
+        let writes = session.writes(alloc, written, until, until)?;
+        body.number("total", writes.len() as u64)?;
+    }
     Ok(body.done())
 }
 
-#[tactic(auto, using(crate::proofs::WritesLemmas::whole_writes))]
-fn put_total(
-    alloc: Global,
-    body: &mut Fields,
-    asked: bool,
-    session: &Session,
-    part: Part,
-    until: usize,
-) -> Result<(), Memory>
-    ensures { OnOk result (members_in body.new ≡ put_total asked session.now.timeline part until (members_in body.old)) }
-{
-    if asked {
-        let writes = session.writes(alloc, part, until, until)?;
-        body.number("total", writes.len() as u64)
-    } else {
-        Ok(())
-    }
-}
-
-fn all_shown(alloc: Global, part: &Part, writes: &[Write]) -> Result<Vec<Value>, Memory>
-    ensures { IfOk result (λ list. map view list.items ≡ map (write_shown part.now) writes.now) }
-{
+fn all_shown(alloc: Global, part: &Part, writes: &[Write]) -> Result<Vec<Value>, Memory> {
     let mut list = Vec::new(alloc);
     for write in writes {
-        add(&mut list, write_shown(alloc, part, *write)?)?;
+        let mut fields = Fields::new(alloc);
+        fields.number("number", write.number as u64)?;
+        put_mark(alloc, &mut fields, part, "before", write.before)?;
+        put_mark(alloc, &mut fields, part, "after", write.after)?;
+        list.push(fields.done())?;
     }
     Ok(list)
-}
-
-fn write_shown(alloc: Global, part: &Part, write: Write) -> Result<Value, Memory>
-    ensures { IfOk result (λ v. view v ≡ write_shown part.now write) }
-{
-    let mut fields = Fields::new(alloc);
-    fields.number("number", write.number as u64)?;
-    put_mark(alloc, &mut fields, part, "before", write.before)?;
-    put_mark(alloc, &mut fields, part, "after", write.after)?;
-    Ok(fields.done())
-}
-
-// The word that a part held: of a register as many bytes as it has.
-fn held_shown(alloc: Global, part: &Part, word: Word) -> Result<Value, Memory>
-    ensures { IfOk result (λ v. view v ≡ held_shown part.now word) }
-{
-    match part {
-        Part::Register(register) => {
-            let mut fields = Fields::new(alloc);
-            put_register(alloc, &mut fields, *register, word)?;
-            Ok(fields.done())
-        }
-        _ => word_shown(alloc, word),
-    }
 }
 
 // What a part held, by its mark.
@@ -123,9 +73,7 @@ fn put_mark(
     part: &Part,
     name: &str,
     mark: Mark,
-) -> Result<(), Memory>
-    ensures { OnOk result (members_in fields.new ≡ put_mark part.now name.now mark (members_in fields.old)) }
-{
+) -> Result<(), Memory> {
     match mark {
         Mark::Word(word) => fields.put(name, held_shown(alloc, part, word)?),
         Mark::Toggle(is_on) => fields.flag(name, is_on),
@@ -135,12 +83,22 @@ fn put_mark(
     }
 }
 
-fn indicator_name(indicator: Cmp) -> &'static str
-    ensures { result.now ≡ indicator_name indicator }
-{
+fn indicator_name(indicator: Cmp) -> &'static str {
     match indicator {
         Cmp::Less => "L",
         Cmp::Equal => "E",
         Cmp::Greater => "G",
+    }
+}
+
+// The word that a part held: of a register as many bytes as it has.
+fn held_shown(alloc: Global, part: &Part, word: Word) -> Result<Value, Memory> {
+    match part {
+        Part::Register(register) => {
+            let mut fields = Fields::new(alloc);
+            put_register(alloc, &mut fields, *register, word)?;
+            Ok(fields.done())
+        }
+        _ => word_shown(alloc, word),
     }
 }

@@ -55,7 +55,7 @@ impl Adapter {
         ensures program { self.new.session.program ≡ self.old.session.program }
         ensures first { self.new.session.timeline.first ≡ self.old.session.timeline.first }
         ensures does { Does (effect_of_deed deed self.old.session.timeline) self.old.session.timeline self.new.session.timeline result }
-        ensures reacts { AnsweredOr (deed_done act deed request.now self.old) request.now self.old self.new out.old out.new result }
+        ensures reacts { AnsweredOr (deed_done act deed self.old) request.now self.old self.new out.old out.new result }
     {
         match done(&mut self.session, deed) {
             Ok(answer) => Ok(self.tell(act, answer, request, out)?),

@@ -1,12 +1,11 @@
 //! A request is answered by what it is about.
 
-ghost use Rattle.std.specs.Prelude.{◌≡◌, ◌⊎◌, [], ◌∷◌, codes, Ok, OnOk};
-ghost use Rattle.serde_json.specs.Data.{null};
+ghost use Rattle.std.specs.Prelude.{◌≡◌, ◌⊎◌, [], ◌∷◌, codes, OnOk};
 ghost use Rattle.mix_refused.specs.Refused.{IfMemory};
-ghost use Rattle.mix_dap.specs.Events.{AddsAnswer, stopped, terminated};
-ghost use Rattle.mix_dap.specs.Replies.{answer_message};
+ghost use Rattle.mix_dap.specs.Events.{stopped, terminated};
+ghost use Rattle.mix_dap.specs.Replies.{AddsReply, looked};
 ghost use Rattle.mix_dap.specs.Stopped.{only};
-ghost use Rattle.mix_dap.specs.Reaction.{reaction};
+ghost use Rattle.mix_dap.specs.Reaction.{reaction, still};
 ghost use Rattle.mix_dap.specs.Reacts.{AnsweredOr, Begins, KeepsSaid};
 
 use crate::adapter::{Adapter, Then};
@@ -16,6 +15,7 @@ use dap_asked::{Fault, Kind, nothing};
 use dap_message::{Outbox, Request};
 use dap_views::given_view;
 use mix_refused::{Memory, Refused};
+use serde_json::Value;
 
 impl Adapter {
     // What a request asks for, by what it is about, and what comes then.
@@ -39,14 +39,12 @@ impl Adapter {
                 Ok(Then::Wait)
             }
             Kind::Look(look) => {
-                let body = self.show(look, request)?;
-                out.reply(request, body)?;
-                Ok(Then::Wait)
+                let shown = self.show(look, request);
+                self.tell_shown(shown, request, out)
             }
             Kind::Given(given) => {
-                let body = given_view(self.alloc, given, request)?;
-                out.reply(request, body)?;
-                Ok(Then::Wait)
+                let shown = given_view(self.alloc, given, request);
+                self.tell_shown(shown, request, out)
             }
             Kind::Points(target) => {
                 let body = self.set_points(target, request)?;
@@ -76,10 +74,30 @@ impl Adapter {
         }
     }
 
+    // What only looks is answered, or refused.
+    #[tactic(auto, using(crate::proofs::EventLemmas::answering))]
+    fn tell_shown(
+        &self,
+        shown: Result<Value, Refused<Fault>>,
+        request: &Request,
+        out: &mut Outbox,
+    ) -> Result<Then, Refused<Fault>>
+        ensures { AnsweredOr (record (still self.now) { outcome = looked }) request.now self.now self.now out.old out.new result }
+    {
+        match shown {
+            Ok(body) => {
+                out.reply(request, body)?;
+                Ok(Then::Wait)
+            }
+            Err(Refused::Fault(fault)) => Err(Refused::Fault(fault)),
+            Err(Refused::Memory) => Err(Refused::Memory),
+        }
+    }
+
     // A program that runs is answered when it stops, so this tells only that it stands.
     #[tactic(auto, using(crate::proofs::EventLemmas::answering))]
     fn pause(&self, request: &Request, out: &mut Outbox) -> Result<(), Memory>
-        ensures { OnOk result (AddsAnswer (answer_message request.now (Ok null)) (stopped (only (codes "pause")) ∷ []) out.old out.new) }
+        ensures { OnOk result (AddsReply request.now (stopped (only (codes "pause")) ∷ []) out.old out.new) }
     {
         out.reply(request, nothing())?;
         self.stopped("pause", None, out)?;
@@ -89,7 +107,7 @@ impl Adapter {
     // The program is at its end, which it may be taken back from.
     #[tactic(auto, using(crate::proofs::EventLemmas::answering))]
     fn terminate(&self, request: &Request, out: &mut Outbox) -> Result<(), Memory>
-        ensures { OnOk result (AddsAnswer (answer_message request.now (Ok null)) (terminated ∷ []) out.old out.new) }
+        ensures { OnOk result (AddsReply request.now (terminated ∷ []) out.old out.new) }
     {
         out.reply(request, nothing())?;
         tell_event("terminated", out)?;

@@ -3,7 +3,7 @@
 ghost use Rattle.std.specs.Prelude.{◌≡◌, codes, Ok};
 ghost use Rattle.mix_refused.specs.Refused.{IfMemory};
 ghost use Rattle.dap_message.specs.Request.{text_of};
-ghost use Rattle.mix_dap.specs.Console.{console_asked, console_deed, line_meant, said_of};
+ghost use Rattle.mix_dap.specs.Console.{console_asked, console_deed, is_said, line_meant};
 ghost use Rattle.dap_asked.specs.Deed.{effect_of_deed, line_deed};
 ghost use Rattle.mix_dap.specs.Leaves.{BreaksOff, Does};
 ghost use Rattle.mix_dap.specs.Reaction.{console, line_done, said_or_done};
@@ -45,7 +45,7 @@ impl Adapter {
         ensures program { self.new.session.program ≡ self.old.session.program }
         ensures first { self.new.session.timeline.first ≡ self.old.session.timeline.first }
         ensures begun { IfMemory result (BreaksOff (console_deed self.old.session typed.now) self.old.session.timeline self.new.session.timeline) }
-        ensures reacts { AnsweredOr (said_or_done (said_of self.old.session typed.now) (line_meant self.old.session typed.now) self.old) request.now self.old self.new out.old out.new result }
+        ensures reacts { AnsweredOr (said_or_done (is_said self.old.session typed.now) (line_meant self.old.session typed.now) self.old) request.now self.old self.new out.old out.new result }
     {
         match said_of(self.alloc, &self.session, typed)? {
             Some(text) => {
@@ -70,7 +70,7 @@ impl Adapter {
         ensures program { self.new.session.program ≡ self.old.session.program }
         ensures first { self.new.session.timeline.first ≡ self.old.session.timeline.first }
         ensures begun { IfMemory result (BreaksOff (line_deed self.old.session line.now) self.old.session.timeline self.new.session.timeline) }
-        ensures reacts { AnsweredOr (line_done (line_deed self.old.session line.now) line.now self.old) request.now self.old self.new out.old out.new result }
+        ensures reacts { AnsweredOr (line_done (line_deed self.old.session line.now) self.old) request.now self.old self.new out.old out.new result }
     {
         match line_deed(&self.session, line) {
             Ok(deed) => self.do_deed(deed, line, request, out),
@@ -90,7 +90,7 @@ impl Adapter {
         ensures program { self.new.session.program ≡ self.old.session.program }
         ensures first { self.new.session.timeline.first ≡ self.old.session.timeline.first }
         ensures does { Does (effect_of_deed deed self.old.session.timeline) self.old.session.timeline self.new.session.timeline result }
-        ensures reacts { AnsweredOr (line_done (Ok deed) line.now self.old) request.now self.old self.new out.old out.new result }
+        ensures reacts { AnsweredOr (line_done (Ok deed) self.old) request.now self.old self.new out.old out.new result }
     {
         match done(&mut self.session, deed) {
             Ok(answer) => Ok(self.tell_command(line, answer, request, out)?),

@@ -4,7 +4,7 @@ ghost use Rattle.std.specs.Prelude.{◌≡◌, IfOk, OnOk, string_bytes};
 ghost use Rattle.std.specs.Option.{option_map};
 ghost use Rattle.dap_message.specs.Fields.{members_in};
 ghost use Rattle.mix_dap.specs.Runs.{is_limit};
-ghost use Rattle.mix_dap.specs.Stopped.{fault_at, fault_in, put_text, text_of};
+ghost use Rattle.mix_dap.specs.Stopped.{fault_at, put_text, text_of};
 
 use dap_message::Fields;
 use mix_machine::MixFault;
@@ -57,9 +57,7 @@ pub(crate) fn fault_at(end: End) -> Option<MixFault>
 }
 
 /// The fault that has ended the steps of an answer, if one has.
-pub(crate) fn fault_in(answer: Answer) -> Option<MixFault>
-    ensures { result ≡ fault_in answer }
-{
+pub(crate) fn fault_in(answer: Answer) -> Option<MixFault> {
     match answer {
         Answer::Ran(_, end) | Answer::Traced(_, end) => fault_at(end),
         Answer::Nothing

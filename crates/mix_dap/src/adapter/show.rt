@@ -1,12 +1,8 @@
 //! What only looks, and what sets breakpoints.
 
-ghost use Rattle.std.specs.Prelude.{◌≡◌, IfOk, OnOk, OnErr, string_bytes};
-ghost use Rattle.serde_json.specs.View.{view};
-ghost use Rattle.mix_dap.specs.Answer.{shown_of};
-ghost use Rattle.dap_asked.specs.List.{Shows};
-ghost use Rattle.dap_asked.specs.Look.{exception_of, exception_shown};
-ghost use Rattle.dap_points.specs.Points.{none_set, points_after, points_told};
-ghost use Rattle.mix_dap.specs.Reaction.{points_answer, points_set};
+ghost use Rattle.std.specs.Prelude.{◌≡◌, OnOk, OnErr, string_bytes};
+ghost use Rattle.dap_points.specs.Points.{points_after};
+ghost use Rattle.mix_dap.specs.Reaction.{points_set};
 
 use crate::adapter::Adapter;
 use crate::launch::Opening;
@@ -27,9 +23,7 @@ use std::alloc::Global;
 
 impl Adapter {
     // What changes nothing.
-    pub(crate) fn show(&self, look: Look, request: &Request) -> Result<Value, Refused<Fault>>
-        ensures { Shows (shown_of look request.now self.now) result }
-    {
+    pub(crate) fn show(&self, look: Look, request: &Request) -> Result<Value, Refused<Fault>> {
         let alloc = self.alloc;
         let first = self.client.first;
         let session = &self.session;
@@ -68,7 +62,6 @@ impl Adapter {
     pub(crate) fn set_points(&mut self, target: Target, request: &Request) -> Result<Value, Memory>
         ensures stand { OnOk result (self.new ≡ record self.old { points = points_set self.old.opening target request.now self.old }) }
         ensures same { OnErr result (self.new ≡ self.old) }
-        ensures told { IfOk result (λ v. view v ≡ points_answer self.old.opening target request.now self.old) }
     {
         match self.opening {
             Opening::Stops | Opening::Runs => self.replace_points(target, request),
@@ -79,7 +72,6 @@ impl Adapter {
     fn replace_points(&mut self, target: Target, request: &Request) -> Result<Value, Memory>
         ensures stand { OnOk result (self.new ≡ record self.old { points = points_after target self.old.session (string_bytes self.old.name) self.old.client.first request.now self.old.points }) }
         ensures same { OnErr result (self.new ≡ self.old) }
-        ensures told { IfOk result (λ v. view v ≡ points_told target self.old.session (string_bytes self.old.name) self.old.client.first request.now) }
     {
         let alloc = self.alloc;
         match target {
@@ -97,9 +89,7 @@ impl Adapter {
 }
 
 // That none is set on a program that is not debugged.
-fn none_set(alloc: Global, target: Target, request: &Request) -> Result<Value, Memory>
-    ensures { IfOk result (λ v. view v ≡ none_set target request.now) }
-{
+fn none_set(alloc: Global, target: Target, request: &Request) -> Result<Value, Memory> {
     match target {
         Target::Lines | Target::Instructions | Target::Data => {
             never(alloc, "not debugged", request, "breakpoints")
@@ -110,18 +100,10 @@ fn none_set(alloc: Global, target: Target, request: &Request) -> Result<Value, M
 }
 
 // The fault at which the program stopped.
-fn exception_info(alloc: Global, fault: Option<MixFault>) -> Result<Value, Refused<Fault>>
-    ensures { Shows (exception_of fault) result }
-{
-    match fault {
-        Some(fault) => Ok(exception_shown(alloc, fault)?),
-        None => Err(Refused::Fault(Fault::NoSuchThing)),
-    }
-}
-
-fn exception_shown(alloc: Global, fault: MixFault) -> Result<Value, Memory>
-    ensures { IfOk result (λ v. view v ≡ exception_shown fault) }
-{
+fn exception_info(alloc: Global, fault: Option<MixFault>) -> Result<Value, Refused<Fault>> {
+    let Some(fault) = fault else {
+        return Err(Refused::Fault(Fault::NoSuchThing));
+    };
     let mut body = Fields::new(alloc);
     put_exception(alloc, &mut body, fault)?;
     body.text("breakMode", "always")?;

@@ -3,7 +3,6 @@
 
 ghost use Rattle.std.specs.Prelude.{◌≡◌, [], ◌∷◌, ◌++◌, IfOk, OnOk, None, Some, codes};
 ghost use Rattle.std.specs.Option.{option_map};
-ghost use Rattle.serde_json.specs.View.{view};
 ghost use Rattle.mix_session.specs.Conflicts.{conflict_text};
 ghost use Rattle.mix_session.specs.Timeline.{world_of};
 ghost use Rattle.mix_dap.specs.Ended.{end_told, fault_told, over_told};

@@ -1,25 +1,22 @@
 //! What was done is told: the request is answered, and then comes what the client has to know.
 #![tactic(auto, using(crate::proofs::EventLemmas::answering))]
 
-ghost use Rattle.std.specs.Prelude.{◌≡◌, [], Ok, IfOk, OnOk};
-ghost use Rattle.std.specs.Str.Lossy.{utf8_lossy};
-ghost use Rattle.mix_session.specs.Timeline.{world_of};
-ghost use Rattle.mix_dap.specs.Answer.{line_body, result_body, value_body, worth_body};
-ghost use Rattle.mix_dap.specs.Events.{AddsAnswer, invalidated};
+ghost use Rattle.std.specs.Prelude.{◌≡◌, [], IfOk, OnOk};
+ghost use Rattle.mix_dap.specs.Events.{invalidated};
 ghost use Rattle.mix_dap.specs.Reaction.{acted, beside, replied, restarted, stepped};
 ghost use Rattle.mix_dap.specs.Reacts.{Answered, Keeps};
-ghost use Rattle.mix_dap.specs.Replies.{answer_message};
+ghost use Rattle.mix_dap.specs.Replies.{AddsReply};
 ghost use Rattle.mix_dap.specs.Stopped.{end_of};
-ghost use Rattle.dap_asked.specs.Value.{evaluated, number_asked};
 
-use crate::adapter::bodies::{line_body, put_result, worth_body};
+use crate::adapter::bodies::{line_body, said_body, worth_body};
 use crate::adapter::ends::fault_in;
 use crate::adapter::{Adapter, Then, Way};
 use dap_asked::{Act, nothing, value_asked, worth_asked};
-use dap_message::{Fields, Outbox, Request};
+use dap_message::{Outbox, Request};
 use mix_machine::{MixFault, Reg};
 use mix_refused::Memory;
 use mix_session::{Answer, End};
+use serde_json::json;
 
 impl Adapter {
     // What an act has done, and what comes then.
@@ -32,15 +29,14 @@ impl Adapter {
     ) -> Result<Then, Memory>
         ensures keeps { Keeps self.old self.new }
         ensures session { self.new.session ≡ self.old.session }
-        ensures reacts { IfOk result (λ then. Answered (acted act answer request.now (beside self.old) self.old.session) request.now self.new then out.old out.new) }
+        ensures reacts { IfOk result (λ then. Answered (acted act answer (beside self.old) self.old.session.timeline) request.now self.new then out.old out.new) }
     {
         match act {
             Act::Step | Act::StepBack => self.tell_step(answer, request, out),
             Act::Continue => {
                 self.fault = None;
-                let mut body = Fields::new(self.alloc);
-                body.flag("allThreadsContinued", true)?;
-                out.reply(request, body.done())?;
+                let body = json!(in self.alloc; {"allThreadsContinued": true})?;
+                out.reply(request, body)?;
                 Ok(Then::Run(Way::Forth(None)))
             }
             Act::StepOut => {
@@ -75,7 +71,8 @@ impl Adapter {
                 Ok(Then::Wait)
             }
             Act::Evaluate => {
-                self.tell_worth(request, out)?;
+                let body = worth_body(self.alloc, &self.session, request)?;
+                out.reply(request, body)?;
                 Ok(Then::Wait)
             }
         }
@@ -99,12 +96,12 @@ impl Adapter {
 
     // The value of what was set.
     fn tell_value(&self, value: &str, request: &Request, out: &mut Outbox) -> Result<(), Memory>
-        ensures { OnOk result (AddsAnswer (answer_message request.now (Ok (value_body value.now))) (invalidated self.now.client) out.old out.new) }
+        ensures { OnOk result (AddsReply request.now (invalidated self.now.client) out.old out.new) }
     {
-        let mut body = Fields::new(self.alloc);
-        body.text("value", value)?;
-        out.reply(request, body.done())?;
-        self.invalidated(out)
+        let body = json!(in self.alloc; {"value": value})?;
+        out.reply(request, body)?;
+        self.invalidated(out)?;
+        Ok(())
     }
 
     // The reply to a line of the script, and what it has written.
@@ -117,7 +114,7 @@ impl Adapter {
     ) -> Result<Then, Memory>
         ensures keeps { Keeps self.old self.new }
         ensures session { self.new.session ≡ self.old.session }
-        ensures reacts { IfOk result (λ then. Answered (replied line.now answer (beside self.old) self.old.session) request.now self.new then out.old out.new) }
+        ensures reacts { IfOk result (λ then. Answered (replied (beside self.old) self.old.session.timeline) request.now self.new then out.old out.new) }
     {
         self.fault = None;
         let text = self.session.text(&answer)?;
@@ -136,19 +133,9 @@ impl Adapter {
         request: &Request,
         out: &mut Outbox,
     ) -> Result<(), Memory>
-        ensures { OnOk result (AddsAnswer (answer_message request.now (Ok (line_body (utf8_lossy line.now) (utf8_lossy text.now) fault))) [] out.old out.new) }
+        ensures { OnOk result (AddsReply request.now [] out.old out.new) }
     {
         let body = line_body(self.alloc, line, text, fault)?;
-        out.reply(request, body)?;
-        Ok(())
-    }
-
-    // What an expression is worth, and the number of it.
-    fn tell_worth(&self, request: &Request, out: &mut Outbox) -> Result<(), Memory>
-        ensures { OnOk result (AddsAnswer (answer_message request.now
-            (Ok (worth_body (evaluated self.now.session request.now) (number_asked self.now.session request.now)))) [] out.old out.new) }
-    {
-        let body = worth_body(self.alloc, &self.session, request)?;
         out.reply(request, body)?;
         Ok(())
     }
@@ -160,18 +147,10 @@ impl Adapter {
         request: &Request,
         out: &mut Outbox,
     ) -> Result<(), Memory>
-        ensures { OnOk result (AddsAnswer (answer_message request.now (Ok (result_body (utf8_lossy text.now)))) [] out.old out.new) }
+        ensures { OnOk result (AddsReply request.now [] out.old out.new) }
     {
-        let text = String::from_utf8_lossy(self.alloc, text)?;
-        self.tell_result(text.as_str(), request, out)
-    }
-
-    fn tell_result(&self, text: &str, request: &Request, out: &mut Outbox) -> Result<(), Memory>
-        ensures { OnOk result (AddsAnswer (answer_message request.now (Ok (result_body text.now))) [] out.old out.new) }
-    {
-        let mut body = Fields::new(self.alloc);
-        put_result(&mut body, text)?;
-        out.reply(request, body.done())?;
+        let body = said_body(self.alloc, text)?;
+        out.reply(request, body)?;
         Ok(())
     }
 

@@ -1,7 +1,7 @@
 -- One entry more is looked at.
 use Rattle.std.proofs.Common.{◌≡◌, ◌+◌, ◌∷◌, [], ◌++◌, map, take, arith}
 use Rattle.serde_json.specs.View.{view}
-use Rattle.dap_points.proofs.PointLemmas.{next_entry, stands_too, told_too}
+use Rattle.dap_points.proofs.PointLemmas.{next_entry, stands_too}
 use Rattle.dap_points.proofs.points.kinds.set_all.Goals as goal
 
 pub loop-entry-preserved : goal.loop-entry-preserved
@@ -10,7 +10,4 @@ loop-entry-preserved g c =
     let i = c.loop-entry.entry-index in
     let entry = c.entry-item.result in
     let next : map view (take (i + 1) entries) ≡ map view (take i entries) ++ view entry ∷ [] = next_entry view entries i entry (omega arith) c.entry-item.is in
-    record {
-      stand = stands_too (g.K.PointKind.point c.args.kind.now) (map view (take i entries)) (view entry) _ _ _ next c.loop-entry.invariant.stand c.in_ok-add.ensures.stands;
-      told = told_too (g.K.PointKind.told c.args.kind.now) (map view (take i entries)) (view entry) _ _ _ (view c.in_ok-add.field-0) next c.loop-entry.invariant.told c.in_ok-add-2.ensures c.in_ok-add.ensures.told;
-    }
+    stands_too (g.K.PointKind.point c.args.kind.now) (map view (take i entries)) (view entry) _ _ _ next c.loop-entry.invariant c.in_ok-add.ensures

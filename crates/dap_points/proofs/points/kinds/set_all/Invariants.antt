@@ -4,7 +4,4 @@ use Rattle.serde_json.specs.View.{view}
 use Rattle.dap_points.proofs.points.kinds.set_all.Given as goal
 
 abbrev pub invariant-loop-entry : goal.invariant-loop-entry
-invariant-loop-entry g l = record {
-  stand : l.points.items ≡ filter_map (g.K.PointKind.point l.kind) (map view (take l.entry-index l.entries));
-  told : map view l.told.items ≡ map (g.K.PointKind.told l.kind) (map view (take l.entry-index l.entries));
-}
+invariant-loop-entry g l = l.points.items ≡ filter_map (g.K.PointKind.point l.kind) (map view (take l.entry-index l.entries))

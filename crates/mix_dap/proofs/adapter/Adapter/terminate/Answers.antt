@@ -1,12 +1,10 @@
 -- The answer, and then the end of the program.
-use Rattle.std.proofs.Common.{rules, [], ◌∷◌, Ok}
-use Rattle.serde_json.specs.Data.{null}
+use Rattle.std.proofs.Common.{[], ◌∷◌}
 use Rattle.mix_dap.specs.Events.{terminated}
-use Rattle.mix_dap.specs.Replies.{answer_message}
-use Rattle.mix_dap.proofs.EventLemmas.{answer-then, answer-with}
+use Rattle.mix_dap.proofs.EventLemmas.{reply-alone, reply-then}
 use Rattle.mix_dap.proofs.adapter.Adapter.terminate.Goals as goal
 
 pub returns : goal.returns
 returns c =
-    answer-then (answer_message c.args.request.now (Ok null)) (terminated ∷ []) c.args.out.now c.reply.new.self c.tell_event.new.out
-    (answer-with c.args.request.now _ null c.args.out.now c.reply.new.self (search rules) c.in_ok-reply.ensures.told) c.in_ok-tell_event.ensures
+    reply-then c.args.request.now (terminated ∷ []) c.args.out.now c.reply.new.self c.tell_event.new.out
+    (reply-alone c.args.request.now _ c.args.out.now c.reply.new.self c.in_ok-reply.ensures.told) c.in_ok-tell_event.ensures

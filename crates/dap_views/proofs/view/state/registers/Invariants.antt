@@ -1,8 +1,0 @@
-use Rattle.std.proofs.Common.{◌≡◌, map, take}
-use Rattle.serde_json.specs.View.{view}
-use Rattle.mix_word.specs.Register.{all_registers}
-use Rattle.dap_views.specs.State.{register_shown}
-use Rattle.dap_views.proofs.view.state.registers.Given as goal
-
-abbrev pub invariant-loop-register : goal.invariant-loop-register
-invariant-loop-register l = map view l.list.items ≡ map (register_shown l.world) (take l.register-index all_registers)
