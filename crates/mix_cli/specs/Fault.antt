@@ -1,12 +1,10 @@
 -- What is answered to a command line that gives no plan.
-use Rattle.std.specs.Prelude.{◌≡◌, ◌≢◌, ⊤, ℕ, [], Option, Some}
+use Rattle.std.specs.Prelude.{◌≡◌, ◌≢◌, ℕ}
 use Rattle.clap.specs.Values.{kind_of}
-use Rattle.clap.specs.Kinds.{IsAmong, Kinds}
 use Rattle.clap.specs.declared.error.Error.{Error}
 use Rattle.clap.specs.declared.error.kind.ErrorKind.{ErrorKind}
 use Rattle.clap.specs.declared.error.kind.ErrorKind.TheVariants.{DisplayHelp, DisplayVersion, OutOfMemory}
 use Rattle.mix_cli.specs.declared.fault.LineFault.{LineFault}
-use Rattle.mix_cli.specs.declared.vain.Vain.{Vain as VainOptions}
 use Rattle.mix_cli.specs.declared.fault.LineFault.TheVariants.{Line, Memory, Vain}
 
 -- out of memory in clap is told as out of memory, its other errors as they are
@@ -14,13 +12,6 @@ abbrev pub IsFaultOf : Error → LineFault → Type 0
 IsFaultOf error Memory = kind_of error ≡ OutOfMemory
 IsFaultOf error (Line told) = (told ≡ error) × (kind_of error ≢ OutOfMemory)
 IsFaultOf error (Vain told) = ⊥
-
--- memory ran out, or the error is of one of these kinds, or, where there is none, these options
--- say nothing together
-abbrev pub IsRefusedBy : Kinds → Option VainOptions → LineFault → Type 0
-IsRefusedBy kinds vain Memory = ⊤
-IsRefusedBy kinds vain (Line told) = IsAmong (kind_of told) kinds
-IsRefusedBy kinds vain (Vain told) = (kinds ≡ []) × (vain ≡ Some told)
 
 -- help and the version end with 0, all else with 2
 abbrev pub status_of_kind : ErrorKind → ℕ

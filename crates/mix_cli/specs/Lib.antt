@@ -1,4 +1,2 @@
 pub mod Fault
-pub mod Plan
-pub mod Program
-pub mod Vain
+pub mod Files

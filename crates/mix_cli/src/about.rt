@@ -24,5 +24,5 @@ Examples:
 The status is 0 if all is accepted, 1 if a source is refused, and 3 if a command
 is refused, a step meets a fault, the steps of a run are used up or a strict run
 ends before a conflict. It is 2 if nothing could be run to its end: a mistake in
-the words, a file that cannot be opened or read, a deck that is refused, a text
-that is too long, an output that takes no more, or no memory.";
+the words, a file that cannot be opened, read or replaced, a deck that is
+refused, a text that is too long, an output that takes no more, or no memory.";

@@ -69,10 +69,19 @@ const LIST: Subcommand<'static> = Subcommand {
 A source is a text file with a program in the language MIXAL, which ends with a
 line END. The listing has each line with its location and its word, and then the
 program's symbols. If the source is refused, it has only the first fault.
+With --latex a table has each line in the columns of the book: its number, LOC,
+OP, ADDRESS, the formula in brackets and the remark.
 
 Example:
   mixrev list primes.mixal",
-    arguments: &[SOURCE],
+    arguments: &[
+        SOURCE,
+        Argument {
+            name: "latex",
+            kind: Kind::Flag,
+            help: "Writes the lines as a table of LaTeX",
+        },
+    ],
 };
 
 const CHECK: Subcommand<'static> = Subcommand {

@@ -11,5 +11,5 @@ mod version;
 mod words;
 
 pub use fault::{FAILED, LineFault, line_status};
-pub use vain::{Choice, Vain};
+pub use vain::Vain;
 pub use words::read_words;

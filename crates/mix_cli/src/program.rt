@@ -1,10 +1,5 @@
 //! The words that the program takes, as clap reads them: the table of the commands, row by row.
 
-ghost use Rattle.std.specs.Prelude.{◌≡◌, IfOk, false, map, not, true};
-ghost use Rattle.clap.specs.Walk.{is_empty};
-ghost use Rattle.clap.specs.Words.{app_of, rule_of, with_subcommand};
-ghost use Rattle.mix_cli.specs.Program.{app_with, argument_of, bare_app, command_named, commands, mixrev, rule_by, rules_of};
-
 use crate::about::{ABOUT, MORE};
 use crate::commands::COMMANDS;
 use crate::version::{LONG_VERSION, VERSION};
@@ -46,8 +41,6 @@ pub(crate) struct Subcommand<'a> {
 }
 
 fn arg_of<'a>(alloc: Global, argument: &Argument<'a>) -> Arg<'a>
-    ensures rule { rule_of result ≡ rule_by (argument_of argument.now) }
-    ensures local { result.global ≡ false }
 {
     let name = argument.name;
     let arg = Arg::new(alloc, name).help(argument.help);
@@ -73,7 +66,6 @@ fn arg_of<'a>(alloc: Global, argument: &Argument<'a>) -> Arg<'a>
 
 // A subcommand. If it has arguments, it shows its help where it is given no word.
 fn command_of<'a>(alloc: Global, row: &Subcommand<'a>) -> Result<Command<'a>, AllocError>
-    ensures app { IfOk result (λ c. app_of c ≡ app_with row.now.name.now (not (is_empty row.now.arguments.now)) (rules_of row.now.arguments.now)) }
 {
     let mut command = Command::new(alloc, row.name)
         .about(row.about)
@@ -85,41 +77,19 @@ fn command_of<'a>(alloc: Global, row: &Subcommand<'a>) -> Result<Command<'a>, Al
     Ok(command)
 }
 
-fn bare<'a>(alloc: Global) -> Command<'a>
-    ensures app { app_of result ≡ bare_app }
+/// The definitions by which clap reads the words.
+pub(crate) fn program<'a>(alloc: Global) -> Result<Command<'a>, AllocError>
 {
-    Command::new(alloc, "mixrev")
+    let mut command = Command::new(alloc, "mixrev")
         .about(ABOUT)
         .version(VERSION)
         .long_version(LONG_VERSION)
         .after_help(MORE)
         .arg_required_else_help(true)
         .subcommand_required(true)
-        .disable_help_subcommand(true)
-}
-
-// A command with one subcommand more, none of whose arguments is global.
-fn with_one<'a>(command: Command<'a>, more: Command<'a>) -> Result<Command<'a>, AllocError>
-    requires { (app_of more).top.is_plain ≡ true }
-    ensures app { IfOk result (λ c. app_of c ≡ with_subcommand (app_of command.entry) (app_of more.entry).top) }
-{
-    command.subcommand(more)
-}
-
-// The commands, in the order in which help lists them.
-fn rows() -> &'static [Subcommand<'static>]
-    ensures { map command_named result.now ≡ commands }
-{
-    &COMMANDS
-}
-
-/// The definitions by which clap reads the words.
-pub(crate) fn program<'a>(alloc: Global) -> Result<Command<'a>, AllocError>
-    ensures app { IfOk result (λ c. app_of c ≡ mixrev) }
-{
-    let mut command = bare(alloc);
-    for row in rows() {
-        command = with_one(command, command_of(alloc, row)?)?;
+        .disable_help_subcommand(true);
+    for row in &COMMANDS {
+        command = command.subcommand(command_of(alloc, row)?)?;
     }
     Ok(command)
 }

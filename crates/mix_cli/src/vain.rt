@@ -1,162 +1,149 @@
-//! Options of `run` that say nothing together: none is dropped without a word.
+//! Options of `run` that say nothing together: none is dropped without a word. And files that a run needs: none is replaced.
 
-ghost use Rattle.std.specs.Prelude.{◌≡◌};
-ghost use Rattle.clap.specs.Words.{found_of, rows_of};
-ghost use Rattle.mix_cli.specs.Vain.{alone, clash, is_chosen, vain_in};
+ghost use Rattle.std.specs.Prelude.{◌≡◌, is_none, option_map, string_bytes};
+ghost use Rattle.mix_cli.specs.Files.{is_one_file, run_is_apart};
 
-use crate::found::{is_given, is_set};
 use clap::ArgMatches;
+use mix_plan::RunPlan;
 use std::fmt;
 
-/// An option of `run` that says nothing beside some others.
-#[derive(Clone, Copy)]
-pub enum Choice {
-    Counts,
-    Formulas,
-    Writes,
-    Trace,
-    Registers,
-    Strict,
-    Unit,
-    Csv,
-    Json,
-    Latex,
-}
-
-impl Choice {
-    fn name(self) -> &'static str {
-        match self {
-            Choice::Counts => "--counts",
-            Choice::Formulas => "--formulas <NAMES>",
-            Choice::Writes => "--writes <PART>",
-            Choice::Trace => "--trace",
-            Choice::Registers => "--registers",
-            Choice::Strict => "--strict",
-            Choice::Unit => "--unit <N>",
-            Choice::Csv => "--csv",
-            Choice::Json => "--json",
-            Choice::Latex => "--latex",
-        }
-    }
-}
-
-/// Two options that say nothing together, or the form of a table where there is none.
+/// Two options that say nothing together, the form of a table where there is none, or two arguments that name one file, which the first would replace.
 #[derive(Clone, Copy)]
 pub enum Vain {
-    Together(Choice, Choice),
-    Alone(Choice),
+    Together(&'static str, &'static str),
+    Alone(&'static str),
+    Replaced(&'static str, &'static str),
 }
 
 impl fmt::Display for Vain {
     fn fmt<W: fmt::Write>(&self, f: &mut fmt::Formatter<W>) -> fmt::Result {
         match self {
-            Vain::Together(a, b) => write!(
-                f,
-                "the argument '{}' cannot be used with '{}'",
-                a.name(),
-                b.name()
-            ),
+            Vain::Together(a, b) => write!(f, "the argument '{a}' cannot be used with '{b}'"),
             Vain::Alone(form) => write!(
                 f,
-                "the argument '{}' cannot be used without '--counts', '--formulas <NAMES>', '--writes <PART>' or '--trace'",
-                form.name()
+                "the argument '{form}' cannot be used without '--counts', '--formulas <NAMES>', '--writes <PART>' or '--trace'"
+            ),
+            Vain::Replaced(over, file) => write!(
+                f,
+                "the argument '{over}' cannot replace the file of '{file}'"
             ),
         }
     }
 }
 
-fn is_chosen(words: &ArgMatches<'_>, choice: Choice) -> bool
-    ensures { result ≡ is_chosen (rows_of (found_of words.now)) choice }
-{
-    match choice {
-        Choice::Counts => is_set(words, "counts"),
-        Choice::Formulas => is_given(words, "formulas"),
-        Choice::Writes => is_given(words, "writes"),
-        Choice::Trace => is_set(words, "trace"),
-        Choice::Registers => is_set(words, "registers"),
-        Choice::Strict => is_set(words, "strict"),
-        Choice::Unit => is_given(words, "unit"),
-        Choice::Csv => is_set(words, "csv"),
-        Choice::Json => is_set(words, "json"),
-        Choice::Latex => is_set(words, "latex"),
+// An option: its name for clap, and as help writes it.
+type Choice = (&'static str, &'static str);
+
+const SOURCE: &str = "<SOURCE>";
+const CARDS: &str = "--cards <FILE>";
+const TYPEWRITER: &str = "--typewriter <FILE>";
+const KEEP: &str = "--keep <FILE>";
+const SVG: &str = "--svg <FILE>";
+
+const COUNTS: Choice = ("counts", "--counts");
+const FORMULAS: Choice = ("formulas", "--formulas <NAMES>");
+const WRITES: Choice = ("writes", "--writes <PART>");
+const TRACE: Choice = ("trace", "--trace");
+const CSV: Choice = ("csv", "--csv");
+const JSON: Choice = ("json", "--json");
+const LATEX: Choice = ("latex", "--latex");
+const STRICT: Choice = ("strict", "--strict");
+const REGISTERS: Choice = ("registers", "--registers");
+const UNIT: Choice = ("unit", "--unit <N>");
+
+// Whether an option is chosen: one with a value by its value.
+fn is_chosen(words: &ArgMatches<'_>, choice: Choice) -> bool {
+    let (id, shown) = choice;
+    match shown.as_bytes() {
+        [.., b'>'] => words.contains_id(id),
+        _ => words.get_flag(id),
     }
 }
 
-// The first of some pairs of which both are chosen.
-#[tactic(auto, unfolding(crate::specs::Vain::clash))]
-fn clash(words: &ArgMatches<'_>, pairs: &[(Choice, Choice)]) -> Option<Vain>
-    ensures { result ≡ clash (rows_of (found_of words.now)) pairs.now }
-{
-    let mut rest = pairs;
-    while let [pair, after @ ..] = rest {
-        let (a, b) = *pair;
-        if is_chosen(words, a) && is_chosen(words, b) {
-            return Some(Vain::Together(a, b));
+// The first of some options that is chosen.
+fn chosen_of(words: &ArgMatches<'_>, options: &[Choice]) -> Option<Choice> {
+    options.iter().copied().find(|option| is_chosen(words, *option))
+}
+
+// The first two of some options that are both chosen.
+fn two_of(words: &ArgMatches<'_>, options: &[Choice]) -> Option<Vain> {
+    let mut first = None;
+    for option in options {
+        if is_chosen(words, *option) {
+            match first {
+                Some(name) => return Some(Vain::Together(name, option.1)),
+                None => first = Some(option.1),
+            }
         }
-        rest = after;
     }
     None
 }
 
-// A form, where there is nothing to write in it.
-#[tactic(auto, unfolding(crate::specs::Vain::alone))]
-fn alone(words: &ArgMatches<'_>) -> Option<Vain>
-    ensures { result ≡ alone (rows_of (found_of words.now)) }
-{
-    let has_rows = is_chosen(words, Choice::Counts)
-        || is_chosen(words, Choice::Formulas)
-        || is_chosen(words, Choice::Writes)
-        || is_chosen(words, Choice::Trace);
-    if has_rows {
-        None
-    } else if is_chosen(words, Choice::Csv) {
-        Some(Vain::Alone(Choice::Csv))
-    } else if is_chosen(words, Choice::Json) {
-        Some(Vain::Alone(Choice::Json))
-    } else if is_chosen(words, Choice::Latex) {
-        Some(Vain::Alone(Choice::Latex))
-    } else {
-        None
+/// Options of `run` that can't stand together, if there are any: a run writes one table, in one form; beside a table it prints no rows and no registers,
+/// and looks for no conflict.
+pub(crate) fn vain_in(words: &ArgMatches<'_>) -> Option<Vain> {
+    let tables = [COUNTS, FORMULAS, WRITES, TRACE];
+    let forms = [CSV, JSON, LATEX];
+    if let Some(vain) = two_of(words, &tables).or(two_of(words, &forms)) {
+        return Some(vain);
+    }
+    for option in [STRICT, REGISTERS, UNIT] {
+        if is_chosen(words, option) {
+            let beside = [COUNTS, FORMULAS, WRITES, CSV, JSON, LATEX];
+            if let Some(other) = chosen_of(words, &beside) {
+                return Some(Vain::Together(option.1, other.1));
+            }
+        }
+    }
+    match chosen_of(words, &tables) {
+        Some(_) => None,
+        None => chosen_of(words, &forms).map(|form| Vain::Alone(form.1)),
     }
 }
 
-/// Options that say nothing together, if there are any.
-#[tactic(auto, unfolding(crate::specs::Vain::vain_in, crate::specs::Vain::pairs))]
-pub(crate) fn vain_in(words: &ArgMatches<'_>) -> Option<Vain>
-    ensures { result ≡ vain_in (rows_of (found_of words.now)) }
+// Whether two names are of one file; `-` is standard input for one, and standard output for the other.
+fn is_one_file(name: Option<&str>, other: Option<&str>) -> bool
+    ensures { result ≡ is_one_file (option_map (λ s. s.now) name.entry) (option_map (λ s. s.now) other.entry) }
 {
-    use Choice::{Counts, Csv, Formulas, Json, Latex, Registers, Strict, Trace, Unit, Writes};
-    let pairs = [
-        (Counts, Formulas),
-        (Counts, Writes),
-        (Counts, Trace),
-        (Formulas, Writes),
-        (Formulas, Trace),
-        (Writes, Trace),
-        (Csv, Json),
-        (Csv, Latex),
-        (Json, Latex),
-        (Strict, Counts),
-        (Strict, Formulas),
-        (Strict, Writes),
-        (Strict, Csv),
-        (Strict, Json),
-        (Strict, Latex),
-        (Registers, Counts),
-        (Registers, Formulas),
-        (Registers, Writes),
-        (Registers, Csv),
-        (Registers, Json),
-        (Registers, Latex),
-        (Unit, Counts),
-        (Unit, Formulas),
-        (Unit, Writes),
-        (Unit, Csv),
-        (Unit, Json),
-        (Unit, Latex),
-    ];
-    match clash(words, &pairs) {
-        Some(vain) => Some(vain),
-        None => alone(words),
+    match (name, other) {
+        (Some(name), Some(other)) => name == other && name != "-",
+        _ => false,
+    }
+}
+
+fn name_of(file: &Option<String>) -> Option<&str>
+    ensures { option_map (λ s. s.now) result ≡ option_map string_bytes file.now }
+{
+    match file {
+        Some(name) => Some(name.as_str()),
+        None => None,
+    }
+}
+
+/// A file that a run would replace and reads too, but for the deck with which its units begin, or would write twice.
+pub(crate) fn replaced(run: &RunPlan) -> Option<Vain>
+    ensures { is_none result ≡ run_is_apart run.now }
+{
+    let (keep, svg) = (name_of(&run.keep), name_of(&run.svg));
+    let source = Some(run.source.as_str());
+    let (cards, typewriter) = (name_of(&run.cards), name_of(&run.typewriter));
+    if is_one_file(keep, source) {
+        Some(Vain::Replaced(KEEP, SOURCE))
+    } else if is_one_file(keep, cards) {
+        Some(Vain::Replaced(KEEP, CARDS))
+    } else if is_one_file(keep, typewriter) {
+        Some(Vain::Replaced(KEEP, TYPEWRITER))
+    } else if is_one_file(svg, source) {
+        Some(Vain::Replaced(SVG, SOURCE))
+    } else if is_one_file(svg, name_of(&run.devices)) {
+        Some(Vain::Replaced(SVG, "--devices <FILE>"))
+    } else if is_one_file(svg, cards) {
+        Some(Vain::Replaced(SVG, CARDS))
+    } else if is_one_file(svg, typewriter) {
+        Some(Vain::Replaced(SVG, TYPEWRITER))
+    } else if is_one_file(svg, keep) {
+        Some(Vain::Replaced(SVG, KEEP))
+    } else {
+        None
     }
 }

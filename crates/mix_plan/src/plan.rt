@@ -2,7 +2,7 @@
 
 use crate::run::RunPlan;
 
-/// What the program is to do: a bundle from standard input; the listing of a source; a check of sources, in JSON or not; a
+/// What the program is to do: a bundle from standard input; the listing of a source; its lines in LaTeX; a check of sources, in JSON or not; a
 /// session of a source, with a deck if one is named, by a script, or, if none is named, a talk; a run; or to be a debug adapter,
 /// or a language server.
 /// The texts are names of files.
@@ -10,6 +10,7 @@ use crate::run::RunPlan;
 pub enum Plan {
     Bundle,
     List(String),
+    Typeset(String),
     Check { sources: Vec<String>, json: bool },
     Debug(DebugPlan),
     Run(RunPlan),

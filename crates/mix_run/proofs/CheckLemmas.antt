@@ -1,28 +1,21 @@
--- What is said of a source shows in its first bytes, one more than it may have.
-use Rattle.std.proofs.Common.{◌≡◌, ℕ, Bool, true, false, not, ◌≤◌, ltb, List, [], ◌∷◌, ◌++◌, length, take, flat_map, None, refl, ap, ◌∙◌, arith}
+-- What is said of a source shows in its first bytes, one more than it may have; and the reports of some sources, one more of them at a time.
+use Rattle.std.proofs.Common.{◌≡◌, ℕ, Bool, true, false, not, ◌||◌, List, [], ◌∷◌, ◌++◌, take, Option, Err, refl, ap, sym, subst, append_assoc, ◌∙◌}
+use Rattle.std.proofs.KnownBytes.{Keeps-refl}
 use Rattle.std.specs.List.{list_any}
-use Rattle.std.specs.Prelude.{if◌then◌else◌}
-use Rattle.std.proofs.lemmas.Bool.{ltb-false}
-use Rattle.std.proofs.lemmas.List.{take_all}
+use Rattle.std.proofs.lemmas.List.{append-nil}
 use Rattle.mix_lines.specs.Lines.{lines}
-use Rattle.mixal_asm.specs.Diagnose.{after_end_from, diagnostics_of, is_warning, of_fault, up_to_end, warnings_of, warnings_up_to_end, with_faults}
+use Rattle.mixal_asm.specs.Diagnose.{after_end_from, diagnostics_of, is_warning, up_to_end, warnings_of, warnings_up_to_end, with_faults}
 use Rattle.mixal_asm.specs.Faults.{faults_of, faults_from, max_faults}
 use Rattle.mixal_asm.specs.declared.diagnostic.Diagnostic.{Diagnostic}
-use Rattle.mixal_asm.specs.declared.fault.AsmFault.{AsmFault}
-use Rattle.mixal_asm.specs.declared.fault.AsmKind.TheVariants.{SourceTooLong}
-use Rattle.mix_check.specs.Binary.{binary_line, is_binary}
-use Rattle.mix_check.specs.Help.{help_of}
-use Rattle.mix_check.specs.Json.{json_diagnostic, json_report}
-use Rattle.mix_check.specs.Report.{diagnostic_text, diagnostics_text, has_faults, report}
-use Rattle.mix_run.specs.Check.{report_of}
+use Rattle.mix_check.specs.Report.{Adds, Report, SaysAll, has_faults, is_binary}
+use Rattle.mix_check.proofs.SayingLemmas.{some-report}
+use Rattle.mix_run.specs.Check.{AreReports, Checks, Named, some_faulty}
+use Rattle.mix_run.specs.Fault.{IsMemoryOrRead}
+use Rattle.mix_run.specs.Output.{Meets}
+use Rattle.mix_run.specs.declared.fault.ToolFault.{ToolFault}
+use Rattle.mix_run.specs.declared.fault.ToolFault.TheVariants as faults
+use Rattle.mix_run.proofs.WritesLemmas.{begun-none}
 use Rattle.mix_run.specs.law.Truncation.{limited-take}
-
--- the one fault of a source that is too long: it is about no part of a line, and what helps to mend it names no line of the source
-abbrev too_long : AsmFault
-too_long = record { line = 1; at = None; kind = SourceTooLong }
-
-abbrev long_source : Diagnostic
-long_source = of_fault too_long
 
 faults_of-take : (source : List ℕ) → faults_of (take 1048577 source) ≡ faults_of source
 unfolding faults_of
@@ -37,18 +30,6 @@ diagnostics_of-take source =
     ap (λ (warnings : List Diagnostic). with_faults warnings (faults_of (take 1048577 source))) (warnings_of-take source)
     ∙ ap (with_faults (warnings_of source)) (faults_of-take source)
 
--- what is said of each diagnostic, if of a source that is too long the same is said for each
-said-take : (say : List ℕ → Diagnostic → List ℕ) → ((s t : List ℕ) → say s long_source ≡ say t long_source) → (source : List ℕ)
-    → flat_map (say (take 1048577 source)) (diagnostics_of (take 1048577 source)) ≡ flat_map (say source) (diagnostics_of source)
-unfolding diagnostics_of faults_of
-said-take say same source = ap (flat_map (say (take 1048577 source))) (diagnostics_of-take source) ∙ go (ltb 1048576 (length source)) refl
-  where
-    go : (b : Bool) → ltb 1048576 (length source) ≡ b → flat_map (say (take 1048577 source)) (diagnostics_of source) ≡ flat_map (say source) (diagnostics_of source)
-    go true e = rw e (ap (λ bytes. bytes ++ []) (same (take 1048577 source) source))
-    go false e =
-        let few : length source ≤ 1048576 = ltb-false 1048576 (length source) e in
-        rw (take_all 1048577 source (omega arith)) refl
-
 -- a binary shows in its first four bytes
 binary-take : (source : List ℕ) → is_binary (take 1048577 source) ≡ is_binary source
 binary-take [] = refl
@@ -57,26 +38,68 @@ binary-take (a ∷ b ∷ []) = refl
 binary-take (a ∷ b ∷ c ∷ []) = refl
 binary-take (a ∷ b ∷ c ∷ d ∷ rest) = refl
 
-report-take : (name source : List ℕ) → report name (take 1048577 source) ≡ report name source
-unfolding report diagnostic_text help_of
-report-take name source =
-    ap (λ (b : Bool). if b then binary_line name else diagnostics_text name (take 1048577 source) (diagnostics_of (take 1048577 source))) (binary-take source)
-    ∙ ap (λ (text : List ℕ). if is_binary source then binary_line name else text) (said-take (diagnostic_text name) (λ s t. refl) source)
-
-json_report-take : (name source : List ℕ) → json_report name (take 1048577 source) ≡ json_report name source
-unfolding json_report json_diagnostic help_of
-json_report-take name source = said-take (json_diagnostic name) (λ s t. refl) source
-
-report_of-take : (json : Bool) (name source : List ℕ)
-    → report_of json (record { name = name; text = take 1048577 source }) ≡ report_of json (record { name = name; text = source })
-report_of-take true name source = json_report-take name source
-report_of-take false name source = report-take name source
+report-take : (json : Bool) (name source text : List ℕ) → Report json name (take 1048577 source) text → Report json name source text
+report-take true name source text says = subst (λ (ds : List Diagnostic). SaysAll true name ds text) (diagnostics_of-take source) says
+report-take false name source text says =
+    λ none. subst (λ (ds : List Diagnostic). SaysAll false name ds text) (diagnostics_of-take source) (says (binary-take source ∙ none))
 
 -- of a source that was read up to one byte more than it may have, the report and whether there is a fault
-pub report-read : (json : Bool) (name source read : List ℕ) → read ≡ take 1048577 source
-    → report_of json (record { name = name; text = read }) ≡ report_of json (record { name = name; text = source })
-report-read json name source read e = ap (λ (text : List ℕ). report_of json (record { name = name; text = text })) e ∙ report_of-take json name source
+pub report-read : (json : Bool) (name source read old new : List ℕ) → read ≡ take 1048577 source → Adds (Report json name read) old new
+    → Adds (Report json name source) old new
+report-read json name source read old new e adds =
+    (adds.0, report-take json name source adds.0 (subst (λ (s : List ℕ). Report json name s adds.0) e adds.1), adds.2)
 
 pub faulty-read : (source read : List ℕ) → read ≡ take 1048577 source → has_faults read ≡ has_faults source
 faulty-read source read e =
     ap has_faults e ∙ ap (λ (ds : List Diagnostic). list_any (λ d. not (is_warning d.finding)) ds) (diagnostics_of-take source)
+
+-- ---- one source more
+
+reports-more : (json : Bool) (sources : List Named) (source : Named) (text one : List ℕ) → AreReports json sources text → Report json source.name source.text one
+    → AreReports json (sources ++ source ∷ []) (text ++ one)
+reports-more json [] source text one none says =
+    subst (AreReports json (source ∷ [])) (ap (λ (t : List ℕ). t ++ one) (sym none)) (one, [], says, refl, sym (append-nil one))
+reports-more json (first ∷ sources) source text one all says = (
+  all.0,
+  all.1 ++ one,
+  all.2,
+  reports-more json sources source all.1 one all.3 says,
+  ap (λ (t : List ℕ). t ++ one) all.4 ∙ append_assoc all.0 all.1 one,
+)
+
+pub reports-next : (json : Bool) (sources : List Named) (name text old new : List ℕ) → AreReports json sources old → Adds (Report json name text) old new
+    → AreReports json (sources ++ record { name = name; text = text } ∷ []) new
+reports-next json sources name text old new so_far adds =
+    subst (AreReports json (sources ++ record { name = name; text = text } ∷ [])) (sym adds.2)
+    (reports-more json sources (record { name = name; text = text }) old adds.0 so_far adds.1)
+
+pub any-more : (sources : List Named) (source : Named) → some_faulty (sources ++ source ∷ []) ≡ (some_faulty sources || has_faults source.text)
+any-more [] source = go (has_faults source.text)
+  where
+    go : (b : Bool) → (b || false) ≡ b
+    go true = refl
+    go false = refl
+any-more (first ∷ sources) source = go (has_faults first.text) (any-more sources source)
+  where
+    go : (b : Bool) → some_faulty (sources ++ source ∷ []) ≡ (some_faulty sources || has_faults source.text)
+        → (b || some_faulty (sources ++ source ∷ [])) ≡ ((b || some_faulty sources) || has_faults source.text)
+    go true more = refl
+    go false more = more
+
+-- ---- there are reports of all sources
+
+pub some-reports : (json : Bool) (sources : List Named) → (text : List ℕ) × AreReports json sources text
+some-reports json [] = ([], refl)
+some-reports json (source ∷ sources) =
+    let one = some-report json source.name source.text in
+    let rest = some-reports json sources in
+    (one.0 ++ rest.0, (one.0, rest.0, one.1, rest.1, refl))
+
+-- where memory was refused or a read has failed, nothing is written, whatever the reports would be
+pub broken-checks : (json : Bool) (sources : List Named) (fault : ToolFault) (told : Option (List ℕ)) → IsMemoryOrRead fault
+    → Checks json sources (λ outcome. Meets outcome (Err fault) told told)
+broken-checks json sources faults.Memory told is = let some = some-reports json sources in (some.0, some.1, begun-none some.0 told)
+broken-checks json sources faults.Read told is = let some = some-reports json sources in (some.0, some.1, Keeps-refl told)
+broken-checks json sources faults.Write told is = absurd is
+broken-checks json sources (faults.Deck fault) told is = absurd is
+broken-checks json sources faults.Long told is = absurd is

@@ -2,7 +2,7 @@
 use Rattle.std.proofs.Common.{◌≡◌, ◌<◌, ◌≤◌, ◌+◌, ◌-◌, ◌==◌, ◌&&◌, ℕ, zero, suc, Bool, true, false, List, [], ◌++◌, refl, sym, ap, arith, append_assoc}
 use Rattle.std.proofs.lemmas.List.{append-nil}
 use Rattle.mixal_asm.specs.Program.{ProgramValue}
-use Rattle.std.proofs.Common.{Option, Ok, Err, codes, ◌∙◌}
+use Rattle.std.proofs.Common.{Option, Ok, Err, codes, subst, ◌∙◌}
 use Rattle.std.specs.Io.KnownBytes.{Appends}
 use Rattle.mix_stream.specs.Stream.{AppendsFront}
 use Rattle.mix_run.specs.declared.fault.ToolFault.TheVariants as faults
@@ -83,40 +83,40 @@ table-made format program t names cells none begun filled whole en named same eb
 pub counted-made : (table : EndTableValue) (options : PrintOptions) (s0 s : SessionState) (end : RunEnd) (stepped : Stepped) (w : WorldState) (text deck map : List ℕ)
     (answer : PrintAnswer) (p : ProgramValue) → s.program ≡ s0.program → s.timeline ≡ after (counted_steps options.steps s0.timeline)
     → end ≡ end_of (counted_steps options.steps s0.timeline).answer → stepped.end ≡ end → stepped.conflicts ≡ counted [] → w ≡ world_of s.timeline → p ≡ s.program
-    → text ≡ end_text table s.program s.timeline → answer ≡ Ran (came_to p stepped.end w stepped.conflicts) → deck ≡ kept_if options.keep w
-    → DrawnIf options.map s.program s.timeline map
-    → let run = counted_run table options.steps s0 in
+    → text ≡ end_text text table s.program s.timeline → answer ≡ Ran (came_to p stepped.end w stepped.conflicts) → deck ≡ kept_if options.keep w
+    → DrawnIf options.map map
+    → let run = counted_run text table options.steps s0 in
     (text ≡ run.bytes) × (answer ≡ Ran (ran_to s0.program run)) × (deck ≡ kept_if options.keep run.world)
-    × DrawnIf options.map s0.program (after (counted_steps options.steps s0.timeline)) map
+    × DrawnIf options.map map
 unfolding counted_run
 counted-made table options s0 s end stepped w text deck map answer p same steps ends is none stands here text_is leads keeps drawn = (
   text_is ∙ rw (same, steps) refl,
   leads ∙ rw (here, same, is, ends, none, stands, steps) refl,
   keeps ∙ rw (stands, steps) refl,
-  rw (same, steps) at drawn,
+  drawn,
 )
 
 -- all of it is written
 pub counted-leaves : (table : EndTableValue) (options : PrintOptions) (program : ProgramValue) (units : UnitsState) (s0 : SessionState) (text : List ℕ) (printed : Printed)
     (a b : Option (List ℕ)) (n m : ℕ) → s0 ≡ opened program units
-    → (let run = counted_run table options.steps s0 in
+    → (let run = counted_run text table options.steps s0 in
     (text ≡ run.bytes) × (printed.answer ≡ Ran (ran_to s0.program run)) × (printed.deck.items ≡ kept_if options.keep run.world)
-    × DrawnIf options.map s0.program (after (counted_steps options.steps s0.timeline)) printed.map.items)
+    × DrawnIf options.map printed.map.items)
     → Appends a b text → m ≡ n
-    → Leaves (counted_outcome table options program units) (DrawnIf options.map program (after (counted_steps options.steps (opened program units).timeline)))
+    → Leaves (counted_outcome text table options program units) (DrawnIf options.map)
     (Ok printed) a n b m
 unfolding counted_outcome opened
 counted-leaves table options program units s0 text printed a b n m opens made told same =
     let here = rw opens at made in
-    ((rw (here.1, here.2) refl, here.3), rw here.0 at told, same)
+    ((rw (here.1, here.2) refl, here.3), subst (λ (x : List ℕ). Appends a b x) here.0 told, same)
 
 pub counted-begun : (table : EndTableValue) (options : PrintOptions) (program : ProgramValue) (units : UnitsState) (s0 : SessionState) (text : List ℕ) (printed : Printed)
     (a b : Option (List ℕ)) (n m : ℕ) → s0 ≡ opened program units
-    → (let run = counted_run table options.steps s0 in
+    → (let run = counted_run text table options.steps s0 in
     (text ≡ run.bytes) × (printed.answer ≡ Ran (ran_to s0.program run)) × (printed.deck.items ≡ kept_if options.keep run.world)
-    × DrawnIf options.map s0.program (after (counted_steps options.steps s0.timeline)) printed.map.items)
+    × DrawnIf options.map printed.map.items)
     → AppendsFront a b text → m ≡ n + 1
-    → Leaves (counted_outcome table options program units) (DrawnIf options.map program (after (counted_steps options.steps (opened program units).timeline)))
+    → Leaves (counted_outcome text table options program units) (DrawnIf options.map)
     (Err faults.Write) a n b m
 unfolding counted_outcome opened
-counted-begun table options program units s0 text printed a b n m opens made begun more = let here = rw opens at made in (rw here.0 at begun, more)
+counted-begun table options program units s0 text printed a b n m opens made begun more = let here = rw opens at made in (subst (λ (x : List ℕ). AppendsFront a b x) here.0 begun, more)

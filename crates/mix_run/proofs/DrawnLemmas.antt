@@ -1,5 +1,5 @@
--- A map is that of the steps of a session, and what is printed beside it is that of the machine which the session begins with.
-use Rattle.std.proofs.Common.{◌≡◌, ◌∙◌, ◌++◌, ◌||◌, ℕ, Bool, true, false, List, [], Option, None, Some, Result, Ok, Err, ap, is_some, refl, subst, sym, length}
+-- What is printed beside a map is that of the machine which the session begins with.
+use Rattle.std.proofs.Common.{◌≡◌, ◌∙◌, ◌||◌, ℕ, Bool, true, false, List, [], Option, None, Some, Result, Ok, Err, ap, is_some, refl, sym}
 use Rattle.std.specs.Io.KnownBytes.{Appends}
 use Rattle.mixal_asm.specs.Program.{ProgramValue}
 use Rattle.mix_machine.specs.Loaded.{loaded}
@@ -7,17 +7,11 @@ use Rattle.mix_machine.specs.World.{WorldState}
 use Rattle.mix_machine.specs.declared.part.Part.{Part}
 use Rattle.mix_machine.specs.units.Units.{UnitsState}
 use Rattle.mix_session.specs.Change.{world_at}
-use Rattle.mix_session.specs.Command.{after}
-use Rattle.mix_session.specs.Path.{IsPath, path_at}
 use Rattle.mix_session.specs.Session.{SessionState, opened}
-use Rattle.mix_session.specs.Timeline.{Timeline}
 use Rattle.mix_session.specs.declared.fault.Refusal.{Refusal}
-use Rattle.mix_session.specs.declared.path.Span.{Span}
-use Rattle.mix_run.specs.Counted.{EndTableValue, counted_steps, end_table_asked, end_table_of}
+use Rattle.mix_run.specs.Counted.{EndTableValue, end_table_asked, end_table_of}
 use Rattle.mix_run.specs.Drawn.{DrawnIf, DrawnRun, DrawnSteps}
 use Rattle.mix_run.specs.Keep.{kept_if}
-use Rattle.mix_run.specs.Map.{IsMap, map_of_run, map_text, span_of}
-use Rattle.mix_map.specs.Map.{Counts, MapValue, map_by}
 use Rattle.mix_run.specs.Print.{Run, counted, run_of}
 use Rattle.mix_run.specs.PrintOutput.{Leaves, answered, came_to, counted_outcome, outcome_of_run, printed_outcome}
 use Rattle.mix_run.specs.StepTable.{part_named, run_told, step_table, table_of}
@@ -32,20 +26,6 @@ use Rattle.mix_run.specs.declared.print.options.TableOf.TheVariants as ofs
 use Rattle.mix_run.specs.declared.print.steps.Stepped.{Stepped}
 use Rattle.mix_run.specs.declared.print.tabled.StepTable.{StepTable}
 use Rattle.mix_run.proofs.Written.{Appends-nothing}
-
--- the map of a path
-pub drawn-path : (program p : ProgramValue) (t : Timeline) (counts slice none new : List ℕ) (total : ℕ) (span : Span) (map : MapValue)
-    → total ≡ length t.changes → span ≡ span_of total → IsPath t span counts → p ≡ program → slice ≡ counts
-    → ((count : ℕ → ℕ → ℕ) → Counts span.columns slice count → map ≡ map_by span.columns 120 count)
-    → none ≡ [] → new ≡ none ++ map_text p total map → IsMap program t new
-drawn-path program p t counts slice none new total span map all columns path same same_counts made empty added =
-    let n = length t.changes in
-    let here : span ≡ span_of n = columns ∙ ap span_of all in
-    let whole : IsPath t (span_of n) slice = subst (λ (cs : List ℕ). IsPath t (span_of n) cs) (sym same_counts) (subst (λ (s : Span). IsPath t s counts) here path) in
-    let all_made = subst (λ (s : Span). (count : ℕ → ℕ → ℕ) → Counts s.columns slice count → map ≡ map_by s.columns 120 count) here made in
-    let drawn : map ≡ map_of_run t n = all_made (path_at t (span_of n)) whole in
-    added ∙ ap (λ (xs : List ℕ). xs ++ map_text p total map) empty ∙ ap (λ (q : ProgramValue). map_text q total map) same
-    ∙ ap (λ (k : ℕ). map_text program k map) all ∙ ap (map_text program n) drawn
 
 -- the session that a program is opened in
 pub opened-program : (program : ProgramValue) (units : UnitsState) (s : SessionState) (p : ProgramValue) → s ≡ opened program units → p ≡ s.program → p ≡ program
@@ -84,14 +64,13 @@ leaves-made options program p run stepped world printed IsDrawn a b n m same tol
 pub leaves-opened : (options : PrintOptions) (part : List ℕ) (table : Option StepTable) (program : ProgramValue) (units : UnitsState) (s : SessionState)
     (done : Result Printed ToolFault) (a b : Option (List ℕ)) (n m : ℕ) → s ≡ opened program units → step_table options.table part s ≡ Ok table
     → Leaves (answered options s.program (run_told table options s.program (world_at s.timeline 0)))
-    (DrawnIf options.map s.program (after (counted_steps options.steps s.timeline))) done a n b m
+    (DrawnIf options.map) done a n b m
     → Leaves (printed_outcome options part program units) (DrawnSteps options part program units) done a n b m
 unfolding printed_outcome
 leaves-opened options part table program units s done a b n m opens chosen leaves =
     let here = ap (λ (x : SessionState). step_table options.table part x) (sym opens) ∙ chosen in
-    let steps = ap (λ (x : SessionState). after (counted_steps options.steps x.timeline)) opens in
     let world = loaded-world program units s (world_at s.timeline 0) opens refl in
-    rw here (rw (world, steps, opened-program program units s s.program opens refl) at leaves)
+    rw here (rw (world, opened-program program units s s.program opens refl) at leaves)
 
 -- a part that is none
 pub leaves-none : (options : PrintOptions) (part : List ℕ) (program : ProgramValue) (units : UnitsState) (s : SessionState) (refusal : Refusal) (printed : Printed)
@@ -119,22 +98,22 @@ unfolding step_table
 last-table None subject table s e = absurd cc
 last-table (Some asked) subject table s e = last-of asked.of asked subject table (part_named s subject) e
 
-pub leaves-counted : (options : PrintOptions) (subject : List ℕ) (table : EndTableValue) (program : ProgramValue) (units : UnitsState) (done : Result Printed ToolFault)
+pub leaves-counted : (latex : List ℕ) (options : PrintOptions) (subject : List ℕ) (table : EndTableValue) (program : ProgramValue) (units : UnitsState) (done : Result Printed ToolFault)
     (a b : Option (List ℕ)) (n m : ℕ) → end_table_asked options.table subject ≡ Ok (Some table)
-    → Leaves (counted_outcome table options program units)
-    (DrawnIf options.map program (after (counted_steps options.steps (opened program units).timeline))) done a n b m
-    → Leaves (outcome_of_run options subject program units) (DrawnRun options subject program units) done a n b m
+    → Leaves (counted_outcome latex table options program units)
+    (DrawnIf options.map) done a n b m
+    → Leaves (outcome_of_run latex options subject program units) (DrawnRun options subject program units) done a n b m
 unfolding outcome_of_run
-leaves-counted options subject table program units done a b n m last leaves =
+leaves-counted latex options subject table program units done a b n m last leaves =
     rw (last, last-table options.table subject table (opened program units) last) leaves
 
 -- values that cannot be read
-pub leaves-refused : (options : PrintOptions) (subject : List ℕ) (program : ProgramValue) (units : UnitsState) (refusal : Refusal) (printed : Printed)
+pub leaves-refused : (latex : List ℕ) (options : PrintOptions) (subject : List ℕ) (program : ProgramValue) (units : UnitsState) (refusal : Refusal) (printed : Printed)
     (told : Option (List ℕ)) (n : ℕ) → end_table_asked options.table subject ≡ Err refusal → printed.answer ≡ NoTable refusal
     → printed.deck.items ≡ [] → printed.map.items ≡ []
-    → Leaves (outcome_of_run options subject program units) (DrawnRun options subject program units) (Ok printed) told n told n
+    → Leaves (outcome_of_run latex options subject program units) (DrawnRun options subject program units) (Ok printed) told n told n
 unfolding outcome_of_run
-leaves-refused options subject program units refusal printed told n last answer deck map = rw last ((rw (answer, deck) refl, map), Appends-nothing told, refl)
+leaves-refused latex options subject program units refusal printed told n last answer deck map = rw last ((rw (answer, deck) refl, map), Appends-nothing told, refl)
 
 no-table : (asked : Option AskedTable) → is_some asked ≡ false → asked ≡ None
 no-table None e = refl
@@ -149,20 +128,20 @@ unfolding step_table
 table-none asked part s e = rw (no-table asked e) refl
 
 -- a run without a session is told by what it prints
-pub leaves-alone : (options : PrintOptions) (subject : List ℕ) (program : ProgramValue) (units : UnitsState) (done : Result Printed ToolFault)
+pub leaves-alone : (latex : List ℕ) (options : PrintOptions) (subject : List ℕ) (program : ProgramValue) (units : UnitsState) (done : Result Printed ToolFault)
     (a b : Option (List ℕ)) (n m : ℕ) → (options.map || is_some options.table) ≡ false
     → Leaves (answered options program (run_of options (loaded program.words program.start units))) (λ map. map ≡ []) done a n b m
-    → Leaves (outcome_of_run options subject program units) (DrawnRun options subject program units) done a n b m
+    → Leaves (outcome_of_run latex options subject program units) (DrawnRun options subject program units) done a n b m
 unfolding outcome_of_run printed_outcome
-leaves-alone options subject program units done a b n m alone leaves =
+leaves-alone latex options subject program units done a b n m alone leaves =
     let none = neither options.map (is_some options.table) alone in
     let last : end_table_asked options.table subject ≡ Ok None = ap (λ asked. end_table_asked asked subject) (no-table options.table none.1) in
     rw (last, table-none options.table subject (opened program units) none.1, none.0) leaves
 
 -- and one with it in a session
-pub leaves-told : (options : PrintOptions) (subject : List ℕ) (program : ProgramValue) (units : UnitsState) (done : Result Printed ToolFault)
+pub leaves-told : (latex : List ℕ) (options : PrintOptions) (subject : List ℕ) (program : ProgramValue) (units : UnitsState) (done : Result Printed ToolFault)
     (a b : Option (List ℕ)) (n m : ℕ) → end_table_asked options.table subject ≡ Ok None
     → Leaves (printed_outcome options subject program units) (DrawnSteps options subject program units) done a n b m
-    → Leaves (outcome_of_run options subject program units) (DrawnRun options subject program units) done a n b m
+    → Leaves (outcome_of_run latex options subject program units) (DrawnRun options subject program units) done a n b m
 unfolding outcome_of_run
-leaves-told options subject program units done a b n m last leaves = rw last leaves
+leaves-told latex options subject program units done a b n m last leaves = rw last leaves

@@ -13,16 +13,15 @@ use Rattle.mix_session.specs.declared.reply.Told.{Told}
 use Rattle.mix_session.specs.declared.reply.Told.TheVariants.{Accepted}
 use Rattle.mix_stream.specs.Stream.{AppendsFront}
 use Rattle.mix_run.specs.Asked.{after_lines, answers, asked, is_over, is_quit, recalled_all}
-use Rattle.mix_run.specs.Bundle.{OriginValue}
 use Rattle.mix_run.specs.Fault.{IsMemoryOrWrite}
 use Rattle.mix_run.specs.Hearing.{Answered, Hears}
 use Rattle.mix_run.specs.Opening.{Files, Saved, noted}
 use Rattle.mix_run.specs.Output.{replies}
 use Rattle.mix_run.specs.Recall.{RecallState, meant, recalled}
 use Rattle.mix_run.specs.Reload.{moment_of, reloaded}
-use Rattle.mix_run.specs.Saves.{saves, saves_of}
+use Rattle.mix_run.specs.Saves.{is_save, saves_of}
 use Rattle.mix_run.specs.Sources.{Knows, is_reload, is_source, reads_file, sources_by, stands_by, stands_for}
-use Rattle.mix_run.specs.Stretch.{in_session, joined, silent, talk_of, typed_line}
+use Rattle.mix_run.specs.Stretch.{in_session, joined, saving, silent, talk_of, typed_line}
 use Rattle.mix_run.specs.Talk.{AnswersRead, TalksTo, is_too_long, is_whole, max_line_bytes}
 use Rattle.mix_run.specs.declared.fault.ToolFault.{ToolFault}
 use Rattle.mix_run.specs.declared.fault.ToolFault.TheVariants as faults
@@ -35,7 +34,7 @@ use Rattle.mix_run.specs.declared.talk.moment.Moment.{Moment}
 use Rattle.mix_run.specs.declared.talk.aside.Talker.TheVariants as talkers
 use Rattle.mix_run.proofs.StretchLemmas.{Answered-as, Answered-begun, Answered-nothing, Answered-over, Answered-then, joined-end, talk-append, talk-one, then-more}
 use Rattle.std.proofs.lemmas.Bool.{or_parts, or_right}
-use Rattle.mix_run.proofs.TalkLemmas.{lines-append, long-first, quit-recalled, quit-said, quit-saves, whole-append}
+use Rattle.mix_run.proofs.TalkLemmas.{lines-append, long-first, quit-recalled, quit-said, whole-append}
 use Rattle.mix_run.proofs.Written.{Appends-nothing, Appends-same}
 
 -- ---- what is known of lines
@@ -65,6 +64,7 @@ stands-kind all line_kind.Delete line e = refl
 stands-kind all line_kind.Display line e = refl
 stands-kind all line_kind.Undisplay line e = refl
 stands-kind all line_kind.Save line e = refl
+stands-kind all line_kind.SaveOver line e = refl
 stands-kind all line_kind.Quit line e = refl
 stands-kind all line_kind.Reload line e = refl
 
@@ -94,7 +94,7 @@ reloaded-known held all talker line reloads known = known-of held all talker lin
 same-moment : (m now : Moment) → now.session ≡ m.session → now.recall ≡ m.recall → now.origin ≡ m.origin → now ≡ m
 same-moment m now session recall origin = ap₂ (λ x y. moment_of x y now.origin) session recall ∙ ap (moment_of m.session m.recall) origin
 
--- a line that stands for itself: what it asks for, what is recalled then, and what it saves
+-- a line that stands for itself: what it asks for, and what is recalled then
 module _ (s : SessionState) (talker : Talker) (r : RecallState) (line : List ℕ) where
   asked-line : asked s talker r (line ∷ []) ≡ meant s talker r line
   asked-line = go (is_quit talker line) refl
@@ -110,13 +110,6 @@ module _ (s : SessionState) (talker : Talker) (r : RecallState) (line : List ℕ
       go true quit = rw quit (sym (quit-recalled s talker r line quit))
       go false quit = rw quit refl
 
-  saves-line : (o : OriginValue) → saves o s talker r (line ∷ []) ≡ saves_of o talker r line
-  saves-line o = go (is_quit talker line) refl
-    where
-      go : (v : Bool) → is_quit talker line ≡ v → saves o s talker r (line ∷ []) ≡ saves_of o talker r line
-      go true quit = rw quit (sym (quit-saves o talker r line quit))
-      go false quit = rw quit (append-nil (saves_of o talker r line))
-
   pub begun-itself : (a b : Option (List ℕ)) → AppendsFront a b (replies s (meant s talker r line)).bytes → AppendsFront a b (answers s talker r (line ∷ [])).bytes
   begun-itself a b begun = subst (λ l. AppendsFront a b (replies s l).bytes) (sym asked-line) begun
 
@@ -126,7 +119,7 @@ pub answered-itself : (d f : Option (List Saved)) (a b : Option (List ℕ)) (m n
     → IfOk result (λ h. h.is_over ≡ is_quit talker line)
     → OnOk result (now.session ≡ after_lines m.session (meant m.session talker m.recall line))
     → OnOk result (now.recall ≡ recalled m.session talker m.recall line) → now.origin ≡ m.origin
-    → OnOk result (f ≡ noted d (saves_of m.origin talker m.recall line))
+    → f ≡ d
     → IfOk result (λ h. Answered (in_session m talker (line ∷ [])) now h.told h.is_over d f a b)
 answered-itself d f a b m now talker line (Ok h) told written over session recall origin saved =
     let asks = sym (asked-line m.session talker m.recall line) in
@@ -135,31 +128,38 @@ answered-itself d f a b m now talker line (Ok h) told written over session recal
       told = told ∙ ap (λ l. (replies m.session l).told) asks;
       over = over ∙ sym (or-false (is_quit talker line));
       written = Appends-same a b _ _ (ap (λ l. (replies m.session l).bytes) asks) written;
-      saved = saved ∙ ap (noted d) (sym (saves-line m.session talker m.recall line m.origin));
+      saved = saved;
     }
 answered-itself d f a b m now talker line (Err fault) told written over session recall origin saved = tt
 
--- a line that does not reload: the lines that it stands for are heard
-pub typed-as : (all : Files) (m : Moment) (talker : Talker) (line : List ℕ) (xs : List (List ℕ)) → is_reload talker line ≡ false
+-- a line that neither reloads nor saves: the lines that it stands for are heard
+pub typed-as : (all : Files) (m : Moment) (talker : Talker) (line : List ℕ) (xs : List (List ℕ)) → is_reload talker line ≡ false → is_save talker line ≡ false
     → xs ≡ stands_for all talker line → in_session m talker xs ≡ typed_line all m talker line
-typed-as all m talker line xs stays same = ap (in_session m talker) same ∙ rw stays refl
+typed-as all m talker line xs stays keeps same = ap (in_session m talker) same ∙ rw (stays, keeps) refl
 
 pub begun-as : (all : Files) (m : Moment) (talker : Talker) (line : List ℕ) (xs : List (List ℕ)) (a b : Option (List ℕ)) → is_reload talker line ≡ false
-    → xs ≡ stands_for all talker line → AppendsFront a b (answers m.session talker m.recall xs).bytes → AppendsFront a b (typed_line all m talker line).bytes
-begun-as all m talker line xs a b stays same begun = subst (λ s. AppendsFront a b s.bytes) (typed-as all m talker line xs stays same) begun
+    → is_save talker line ≡ false → xs ≡ stands_for all talker line → AppendsFront a b (answers m.session talker m.recall xs).bytes → AppendsFront a b (typed_line all m talker line).bytes
+begun-as all m talker line xs a b stays keeps same begun = subst (λ s. AppendsFront a b s.bytes) (typed-as all m talker line xs stays keeps same) begun
 
 pub answered-as : (c d f : Option (List Saved)) (a b : Option (List ℕ)) (all : Files) (m now : Moment) (talker : Talker) (line : List ℕ) (xs : List (List ℕ))
-    (result : Result Heard ToolFault) → is_reload talker line ≡ false → d ≡ c → xs ≡ stands_for all talker line
+    (result : Result Heard ToolFault) → is_reload talker line ≡ false → is_save talker line ≡ false → d ≡ c → xs ≡ stands_for all talker line
     → IfOk result (λ h. Answered (in_session m talker xs) now h.told h.is_over d f a b)
     → IfOk result (λ h. Answered (typed_line all m talker line) now h.told h.is_over c f a b)
-answered-as c d f a b all m now talker line xs result stays unsaved same =
+answered-as c d f a b all m now talker line xs result stays keeps unsaved same =
     IfOk-weaker result _ _ (λ h k. subst (λ x. Answered (typed_line all m talker line) now h.told h.is_over x f a b) unsaved
-    (Answered-as h.told h.told h.is_over h.is_over (typed-as all m talker line xs stays same) refl refl k))
+    (Answered-as h.told h.told h.is_over h.is_over (typed-as all m talker line xs stays keeps same) refl refl k))
 
 -- a line that reloads
 pub Answered-reload : {d f : Option (List Saved)} (all : Files) (m now : Moment) (talker : Talker) (line : List ℕ) (a : Option (List ℕ))
     → is_reload talker line ≡ true → now ≡ reloaded (all m.origin.name) m → f ≡ d → Answered (typed_line all m talker line) now Accepted false d f a a
 Answered-reload all m now talker line a reloads is unsaved = rw reloads (record { moment = is; told = refl; over = refl; written = Appends-nothing a; saved = unsaved })
+
+-- a line that saves
+pub Answered-save : {d f : Option (List Saved)} (all : Files) (m now : Moment) (talker : Talker) (line : List ℕ) (a : Option (List ℕ))
+    → is_reload talker line ≡ false → is_save talker line ≡ true → now ≡ (saving m line).moment → f ≡ noted d (saves_of m.origin m.recall.done line)
+    → Answered (typed_line all m talker line) now Accepted false d f a a
+Answered-save all m now talker line a stays keeps is saved =
+    rw (stays, keeps) (record { moment = is; told = refl; over = refl; written = Appends-nothing a; saved = saved })
 
 -- what is said of the lines of a text one by one
 pub answered-lines : (d f : Option (List Saved)) (a b : Option (List ℕ)) (m now : Moment) (talker : Talker)
@@ -168,7 +168,7 @@ pub answered-lines : (d f : Option (List Saved)) (a b : Option (List ℕ)) (m no
     → IfOk result (λ h. h.is_over ≡ is_over talker xs)
     → IfOk result (λ _. now.session ≡ after_lines m.session (asked m.session talker m.recall xs))
     → IfOk result (λ _. now.recall ≡ recalled_all m.session talker m.recall xs) → now.origin ≡ m.origin
-    → OnOk result (f ≡ noted d (saves m.origin m.session talker m.recall xs))
+    → f ≡ d
     → IfOk result (λ h. Answered (in_session m talker xs) now h.told h.is_over d f a b)
 answered-lines d f a b m now talker xs (Ok h) said over session recall origin saved =
     record { moment = same-moment _ now session recall origin; told = said.0; over = over; written = said.1; saved = saved }

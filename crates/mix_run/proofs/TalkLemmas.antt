@@ -15,10 +15,8 @@ use Rattle.mix_session.specs.Reply.{told_of_both}
 use Rattle.mix_session.specs.declared.reply.Told.{Told}
 use Rattle.mix_stream.specs.Stream.{AppendsFront}
 use Rattle.mix_run.specs.Output.{replies}
-use Rattle.mix_run.specs.Bundle.{OriginValue, bundle_of}
 use Rattle.mix_run.specs.Opening.{Saved, noted, noted_one}
 use Rattle.mix_run.specs.Recall.{RecallState, meant, meant_by, read_as, recalled, recalled_by}
-use Rattle.mix_run.specs.Saves.{saves, saves_by, saves_of}
 use Rattle.mix_run.specs.Asked.{after_lines, answers, asked, is_over, is_end, is_quit, recalled_all}
 use Rattle.mix_run.specs.Talk.{is_too_long, is_whole, max_line_bytes}
 use Rattle.mix_person.specs.Person.{kind_of}
@@ -177,10 +175,11 @@ end-kind line_kind.Delete e = absurd (true≢false (sym e))
 end-kind line_kind.Display e = absurd (true≢false (sym e))
 end-kind line_kind.Undisplay e = absurd (true≢false (sym e))
 end-kind line_kind.Save e = absurd (true≢false (sym e))
+end-kind line_kind.SaveOver e = absurd (true≢false (sym e))
 end-kind line_kind.Source e = absurd (true≢false (sym e))
 end-kind line_kind.Reload e = absurd (true≢false (sym e))
 
--- it stands for no line of a script, nor is anything recalled of it, nor does it save anything
+-- it stands for no line of a script, nor is anything recalled of it
 pub quit-said : (s : SessionState) (talker : Talker) (r : RecallState) (line : List ℕ) → is_quit talker line ≡ true → meant s talker r line ≡ []
 quit-said s talkers.Program r line e = absurd (true≢false (sym e))
 quit-said s talkers.Person r line e = ap (λ kind. meant_by s r.points kind (read_as s r line)) (end-kind (kind_of (words line)) e)
@@ -188,10 +187,6 @@ quit-said s talkers.Person r line e = ap (λ kind. meant_by s r.points kind (rea
 pub quit-recalled : (s : SessionState) (talker : Talker) (r : RecallState) (line : List ℕ) → is_quit talker line ≡ true → recalled s talker r line ≡ r
 quit-recalled s talkers.Program r line e = refl
 quit-recalled s talkers.Person r line e = ap (λ kind. recalled_by s kind (read_as s r line) r) (end-kind (kind_of (words line)) e)
-
-pub quit-saves : (o : OriginValue) (talker : Talker) (r : RecallState) (line : List ℕ) → is_quit talker line ≡ true → saves_of o talker r line ≡ []
-quit-saves o talkers.Program r line e = refl
-quit-saves o talkers.Person r line e = ap (λ kind. saves_by kind (bundle_of o r.done) (words line)) (end-kind (kind_of (words line)) e)
 
 module _ (s : SessionState) (talker : Talker) (r : RecallState) (line : List ℕ) (all more : List (List ℕ)) (e : all ≡ line ∷ more) where
   abbrev said-one : List (List ℕ)
@@ -228,15 +223,6 @@ module _ (s : SessionState) (talker : Talker) (r : RecallState) (line : List ℕ
       AppendsFront-after a b c so_far.0 (replies s said-one).bytes one-front.0 whole so_far.1 reply
       (so_far.2 ∙ ap (λ bytes. so_far.0 ++ bytes) one-front.1)
 
-  saves-none : (o : OriginValue) → is_quit talker line ≡ true → saves o s talker r all ≡ []
-  saves-none o quit = ap (saves o s talker r) e ∙ rw quit refl
-
-  -- after the line that ends the talk, nothing more is saved
-  pub saved-end : (o : OriginValue) (p q whole : Option (List Saved)) → is_quit talker line ≡ true → noted p (saves o s talker r all) ≡ whole
-      → q ≡ noted p (saves_of o talker r line) → q ≡ whole
-  saved-end o p q whole quit before here =
-      here ∙ ap (noted p) (quit-saves o talker r line quit) ∙ sym (ap (noted p) (saves-none o quit)) ∙ before
-
   -- one line more was answered
   module _ (next : SessionState) (later : RecallState) (quit : is_quit talker line ≡ false) (changed : next ≡ after_lines s said-one)
       (recalls : later ≡ recalled s talker r line) where
@@ -265,14 +251,6 @@ module _ (s : SessionState) (talker : Talker) (r : RecallState) (line : List ℕ
         ∙ ap (λ t. told_of_both t (answers next talker later more).told) (sym here) in
         both-assoc so_far one (answers next talker later more).told ∙ ap (told_of_both so_far) (sym left) ∙ before
 
-    pub saved-one : (o : OriginValue) (p q whole : Option (List Saved)) → noted p (saves o s talker r all) ≡ whole
-        → q ≡ noted p (saves_of o talker r line) → noted q (saves o next talker later more) ≡ whole
-    saved-one o p q whole before here =
-        let one = saves_of o talker r line in
-        let left : saves o s talker r all ≡ one ++ saves o next talker later more =
-        ap (saves o s talker r) e ∙ rw quit (ap₂ (λ t u. one ++ saves o t talker u more) (sym changed) (sym recalls)) in
-        ap (λ t. noted t (saves o next talker later more)) here ∙ noted-then p one (saves o next talker later more) ∙ ap (noted p) (sym left) ∙ before
-
     pub after-one : after_lines s (asked s talker r all) ≡ after_lines next (asked next talker later more)
     after-one =
         ap (after_lines s) asked-next ∙ after-append s said-one (asked next talker later more)
@@ -299,12 +277,6 @@ module _ (s : SessionState) (talker : Talker) (r : RecallState) (rest : List ℕ
 
   pub all-done : after_lines s (asked s talker r (lines rest)) ≡ s
   all-done = ap (after_lines s) nothing-left
-
-  nothing-saved : (o : OriginValue) → saves o s talker r (lines rest) ≡ []
-  nothing-saved o = rw (none, lines-nil) refl
-
-  pub all-saved : (o : OriginValue) (q whole : Option (List Saved)) → noted q (saves o s talker r (lines rest)) ≡ whole → q ≡ whole
-  all-saved o q whole before = sym (ap (noted q) (nothing-saved o)) ∙ before
 
   pub all-recalled : recalled_all s talker r (lines rest) ≡ r
   all-recalled = rw (none, lines-nil) refl

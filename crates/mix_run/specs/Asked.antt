@@ -23,6 +23,7 @@ is_end line_kind.Delete = false
 is_end line_kind.Display = false
 is_end line_kind.Undisplay = false
 is_end line_kind.Save = false
+is_end line_kind.SaveOver = false
 is_end line_kind.Source = false
 is_end line_kind.Reload = false
 

@@ -24,6 +24,7 @@ use Rattle.mix_run.specs.declared.print.options.TableOf.TheVariants as of
 use Rattle.mix_run.specs.declared.print.steps.RunEnd.{RunEnd}
 use Rattle.mix_run.specs.declared.print.steps.RunEnd.TheVariants.{Halted, Faulted, UsedUp}
 use Rattle.mix_run.specs.declared.table.TableFormat.{TableFormat}
+use Rattle.mix_run.specs.declared.table.TableFormat.TheVariants.{Csv, Json, Latex}
 
 -- ---- the run
 
@@ -79,12 +80,15 @@ pub record EndTableValue : Type 0 where
   pub format : TableFormat
   pub given : Option (List NameValue)
 
-abbrev pub end_text_by : Option (List NameValue) → TableFormat → ProgramValue → Timeline → List ℕ
-end_text_by None format program t = counts_table format program t
-end_text_by (Some given) format program t = formulas_table format given program t
+-- how the counts are set in LaTeX has no definition: that is any text
+abbrev pub end_text_by : List ℕ → Option (List NameValue) → TableFormat → ProgramValue → Timeline → List ℕ
+end_text_by latex None Csv program t = counts_table Csv program t
+end_text_by latex None Json program t = counts_table Json program t
+end_text_by latex None Latex program t = latex
+end_text_by latex (Some given) format program t = formulas_table format given program t
 
-abbrev pub end_text : EndTableValue → ProgramValue → Timeline → List ℕ
-end_text table program t = end_text_by table.given table.format program t
+abbrev pub end_text : List ℕ → EndTableValue → ProgramValue → Timeline → List ℕ
+end_text latex table program t = end_text_by latex table.given table.format program t
 
 -- that of the formulas, if the values of names can be read
 abbrev pub with_given : TableFormat → Option (List NameValue) → Result (Option EndTableValue) Refusal
@@ -103,11 +107,11 @@ end_table_asked None subject = Ok None
 end_table_asked (Some asked) subject = end_table_of asked.of asked.format subject
 
 -- a run whose steps are counted: what it writes, its end, and the machine then; conflicts are not looked for
-unfoldable pub counted_run : EndTableValue → ℕ → SessionState → Run
-counted_run table steps s =
+unfoldable pub counted_run : List ℕ → EndTableValue → ℕ → SessionState → Run
+counted_run latex table steps s =
     let effect = counted_steps steps s.timeline in
     record {
-      bytes = end_text table s.program (after effect);
+      bytes = end_text latex table s.program (after effect);
       end = end_of effect.answer;
       world = world_of (after effect);
       met = [];

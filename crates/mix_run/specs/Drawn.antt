@@ -1,32 +1,27 @@
--- Which map a run draws, if that is asked for: that of the same steps in a session.
-use Rattle.std.specs.Prelude.{◌≡◌, ℕ, Bool, true, false, List, [], Option, Result, Ok, Err}
+-- Whether a run draws a map: if that is asked for, and if it is run at all. A map is a picture, so that the next one may replace its file.
+use Rattle.std.specs.Prelude.{◌≡◌, Bool, true, false, List, ℕ, [], Option, Result, Ok, Err}
 use Rattle.mixal_asm.specs.Program.{ProgramValue}
 use Rattle.mix_machine.specs.units.Units.{UnitsState}
-use Rattle.mix_session.specs.Command.{after}
 use Rattle.mix_session.specs.Session.{opened}
-use Rattle.mix_session.specs.Timeline.{Timeline}
 use Rattle.mix_session.specs.declared.fault.Refusal.{Refusal}
-use Rattle.mix_run.specs.Counted.{EndTableValue, counted_steps, end_table_asked}
-use Rattle.mix_run.specs.Map.{IsMap}
+use Rattle.mix_run.specs.Counted.{EndTableValue, end_table_asked}
+use Rattle.mix_run.specs.Opening.{is_picture}
 use Rattle.mix_run.specs.StepTable.{step_table}
 use Rattle.mix_run.specs.declared.print.options.PrintOptions.{PrintOptions}
 use Rattle.mix_run.specs.declared.print.tabled.StepTable.{StepTable}
 
--- the map of the changes done, if it is asked for, and else nothing
-abbrev pub DrawnIf : Bool → ProgramValue → Timeline → List ℕ → Type 0
-DrawnIf true program t map = IsMap program t map
-DrawnIf false program t map = map ≡ []
+-- a picture, if it is asked for, and else nothing
+abbrev pub DrawnIf : Bool → List ℕ → Type 0
+DrawnIf true map = is_picture map ≡ true
+DrawnIf false map = map ≡ []
 
 -- a run for which a map is drawn: it is asked for, and no part of which a table is to be is none
 abbrev pub is_drawn : Bool → Result (Option StepTable) Refusal → Bool
 is_drawn map (Ok table) = map
 is_drawn map (Err refusal) = false
 
--- a program with its units, after as many steps as are asked for, or up to a halt or a fault
 abbrev pub DrawnSteps : PrintOptions → List ℕ → ProgramValue → UnitsState → List ℕ → Type 0
-DrawnSteps options part program units map =
-    DrawnIf (is_drawn options.map (step_table options.table part (opened program units))) program
-    (after (counted_steps options.steps (opened program units).timeline)) map
+DrawnSteps options part program units map = DrawnIf (is_drawn options.map (step_table options.table part (opened program units))) map
 
 -- nothing is run, and nothing drawn, where the values of names cannot be read by which the formulas are to be checked
 abbrev pub DrawnBy : Result (Option EndTableValue) Refusal → PrintOptions → List ℕ → ProgramValue → UnitsState → List ℕ → Type 0

@@ -8,7 +8,6 @@ pub mod Fault
 pub mod Formulas
 pub mod Hearing
 pub mod Keep
-pub mod Map
 pub mod Opening
 pub mod Output
 pub mod Points

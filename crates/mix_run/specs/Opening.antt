@@ -1,5 +1,11 @@
 -- What opens files: which names it was asked for, and what their files hold, where that is known.
-use Rattle.std.specs.Prelude.{◌≡◌, ℕ, ⊤, List, [], ◌∷◌, ◌++◌, Option, None, Some, Result, Ok, Err, take}
+use Rattle.std.specs.Prelude.{◌≡◌, ◌==◌, ℕ, Bool, true, false, ⊤, List, [], ◌∷◌, ◌++◌, Option, None, Some, Result, Ok, Err, codes, is_ok, length, nat_lt, take}
+use Rattle.std.specs.List.{list_any, starts_with}
+use Rattle.std.specs.Str.{bytes_eq}
+use Rattle.mix_files.specs.Bundle.{parts_of}
+use Rattle.mix_machine.specs.units.deck.Deck.{deck_of}
+use Rattle.mix_run.specs.declared.replaces.Replaces.{Replaces}
+use Rattle.mix_run.specs.declared.replaces.Replaces.TheVariants as replaces
 use Rattle.mix_refused.specs.declared.refused.Refused.{Refused}
 use Rattle.mix_refused.specs.declared.refused.Refused.TheVariants as refused
 use Rattle.mix_run.specs.declared.opener.Unread.{Unread}
@@ -11,9 +17,40 @@ use Rattle.mix_run.specs.declared.reason.Reason.{Reason}
 abbrev pub Files : Type 0
 Files = List ℕ → Result (List ℕ) Reason
 
--- a file that was to be saved: its name and its text
-abbrev pub Saved : Type 0
-Saved = List ℕ × List ℕ
+-- a file that was to be saved: its name, its text, and what it may hold to be replaced
+pub record Saved : Type 0 where
+  pub name : List ℕ
+  pub text : List ℕ
+  pub over : Replaces
+
+-- whether a text is a bundle: something follows its source
+unfoldable pub is_bundle : List ℕ → Bool
+is_bundle text = nat_lt (length (parts_of text).source) (length text)
+
+-- how a picture of a map begins
+abbrev pub picture_begins : List ℕ
+picture_begins = codes "<?xml version=\"1.0\" encoding=\"UTF-8\"?>\n<svg xmlns=\"http://www.w3.org/2000/svg\" viewBox=\"0 0 760 "
+
+abbrev pub is_picture : List ℕ → Bool
+is_picture text = starts_with (λ a b. a == b) text picture_begins
+
+-- whether a file may be replaced that holds this text; an empty one always may
+abbrev pub may_go : Replaces → List ℕ → Bool
+may_go over [] = true
+may_go replaces.Anything (byte ∷ text) = true
+may_go replaces.Nothing (byte ∷ text) = false
+may_go replaces.Bundle (byte ∷ text) = is_bundle (byte ∷ text)
+may_go replaces.Deck (byte ∷ text) = is_ok (deck_of (byte ∷ text))
+may_go replaces.Picture (byte ∷ text) = is_picture (byte ∷ text)
+
+-- the same of a name; where no file can be opened, none is replaced
+abbrev pub may_replace : Replaces → Result (List ℕ) Reason → Bool
+may_replace over (Err reason) = true
+may_replace over (Ok text) = may_go over text
+
+-- whether a name is among those of files that were to be saved
+abbrev pub is_saved : List Saved → List ℕ → Bool
+is_saved saved name = list_any (λ file. bytes_eq file.name name) saved
 
 -- one more, where those so far are known
 abbrev pub noted_one : Option (List Saved) → Saved → Option (List Saved)

@@ -56,19 +56,19 @@ unfoldable pub printed_outcome : PrintOptions → List ℕ → ProgramValue → 
 printed_outcome options part program units =
     told_by options program (loaded program.words program.start units) (step_table options.table part (opened program units))
 
--- the same in a session, with its steps counted
-unfoldable pub counted_outcome : EndTableValue → PrintOptions → ProgramValue → UnitsState → PrintOutcome
-counted_outcome table options program units = answered options program (counted_run table options.steps (opened program units))
+-- the same in a session, with its steps counted; in LaTeX the table of the counts is any text
+unfoldable pub counted_outcome : List ℕ → EndTableValue → PrintOptions → ProgramValue → UnitsState → PrintOutcome
+counted_outcome latex table options program units = answered options program (counted_run latex table options.steps (opened program units))
 
 -- nothing is run where the values of names cannot be read by which the formulas are to be checked
-abbrev pub outcome_by : Result (Option EndTableValue) Refusal → PrintOptions → List ℕ → ProgramValue → UnitsState → PrintOutcome
-outcome_by (Err refusal) options subject program units = Answered [] (NoTable refusal) []
-outcome_by (Ok None) options subject program units = printed_outcome options subject program units
-outcome_by (Ok (Some table)) options subject program units = counted_outcome table options program units
+abbrev pub outcome_by : List ℕ → Result (Option EndTableValue) Refusal → PrintOptions → List ℕ → ProgramValue → UnitsState → PrintOutcome
+outcome_by latex (Err refusal) options subject program units = Answered [] (NoTable refusal) []
+outcome_by latex (Ok None) options subject program units = printed_outcome options subject program units
+outcome_by latex (Ok (Some table)) options subject program units = counted_outcome latex table options program units
 
 -- which of them is asked for, and of which part or by which values
-unfoldable pub outcome_of_run : PrintOptions → List ℕ → ProgramValue → UnitsState → PrintOutcome
-outcome_of_run options subject program units = outcome_by (end_table_asked options.table subject) options subject program units
+unfoldable pub outcome_of_run : List ℕ → PrintOptions → List ℕ → ProgramValue → UnitsState → PrintOutcome
+outcome_of_run latex options subject program units = outcome_by latex (end_table_asked options.table subject) options subject program units
 
 -- the bytes that an outcome writes
 abbrev pub bytes_of : PrintOutcome → List ℕ

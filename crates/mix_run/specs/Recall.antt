@@ -6,7 +6,7 @@ use Rattle.mix_session.specs.Session.{SessionState, request_in}
 use Rattle.mix_session.specs.declared.fault.Refusal.{Refusal}
 use Rattle.mix_session.specs.declared.request.Request.{Request}
 use Rattle.mix_session.specs.declared.request.Request.TheVariants as ask
-use Rattle.mix_person.specs.Aside.{aside_of, part_in}
+use Rattle.mix_person.specs.Aside.{is_aside, part_in}
 use Rattle.mix_person.specs.Person.{kind_of, person_line, watched_in, condition_in}
 use Rattle.mix_run.specs.Points.{can_wait, finished, pieces, point_if, point_in, with_points}
 use Rattle.mix_run.specs.declared.talk.asked.Point.{Point}
@@ -107,7 +107,7 @@ recalled_asked point.Other s typed r = recalled_line s (with_points s r.points t
 
 -- what is recalled of a command: nothing, if something is only said
 abbrev pub recalled_command : SessionState → List ℕ → RecallState → RecallState
-recalled_command s typed r = if is_some (aside_of s typed) then r else recalled_asked (point_in s typed) s typed r
+recalled_command s typed r = if is_aside s typed then r else recalled_asked (point_in s typed) s typed r
 
 -- what is recalled when a person's line was answered; a blank line repeats the last line alone, and only a command
 abbrev pub recalled_by : SessionState → Line → List ℕ → RecallState → RecallState
@@ -119,6 +119,7 @@ recalled_by s line_kind.Delete typed r = record r { again = []; watch = [] }
 recalled_by s line_kind.Display typed r = record (recalled_display s typed r) { again = [] }
 recalled_by s line_kind.Undisplay typed r = record r { again = []; displays = [] }
 recalled_by s line_kind.Save typed r = record r { again = [] }
+recalled_by s line_kind.SaveOver typed r = record r { again = [] }
 recalled_by s line_kind.Source typed r = record r { again = [] }
 recalled_by s line_kind.Reload typed r = record r { again = [] }
 recalled_by s line_kind.Quit typed r = r
@@ -132,7 +133,7 @@ recalled s Program r line = r
 recalled s Person r line = recalled_by s (kind_of (words line)) (read_as s r line) r
 
 -- the lines of a script that a line stands for: a program's stands for itself; help is no command, nor is a listing of the source, what is watched,
--- displayed or saved, or the end of a talk; nor is a line of a file that sources another one or reloads, which is refused; nor is a line, of which
+-- displayed, or the end of a talk; nor is a line of a file that saves, sources another one or reloads, which is refused; nor is a line, of which
 -- something is only said, or which is about the points
 abbrev pub executed : Point → List ℕ → List (List ℕ)
 executed (point.Set place) line = []
@@ -141,7 +142,7 @@ executed point.ClearAll line = []
 executed point.Other line = line ∷ []
 
 abbrev pub meant_command : SessionState → List ℕ → List ℕ → List (List ℕ)
-meant_command s points typed = if is_some (aside_of s typed) then [] else executed (point_in s typed) (with_points s points typed)
+meant_command s points typed = if is_aside s typed then [] else executed (point_in s typed) (with_points s points typed)
 
 abbrev pub meant_by : SessionState → List ℕ → Line → List ℕ → List (List ℕ)
 meant_by s points line_kind.Command typed = meant_command s points typed
@@ -152,6 +153,7 @@ meant_by s points line_kind.Delete typed = []
 meant_by s points line_kind.Display typed = []
 meant_by s points line_kind.Undisplay typed = []
 meant_by s points line_kind.Save typed = []
+meant_by s points line_kind.SaveOver typed = []
 meant_by s points line_kind.Source typed = []
 meant_by s points line_kind.Reload typed = []
 meant_by s points line_kind.Quit typed = []

@@ -27,7 +27,7 @@ stands_by all line_kind.Source line = lines_under all (name_in (words line))
 stands_by all other line = line ∷ []
 
 -- the lines that a typed line stands for; a program sources no file. In a file that is sourced, `source FILE` stands for itself, which does nothing,
--- and so does `reload`.
+-- and so do `save FILE` and `reload`.
 abbrev pub stands_for : Files → Talker → List ℕ → List (List ℕ)
 stands_for all Program line = line ∷ []
 stands_for all Person line = stands_by all (kind_of (words line)) line

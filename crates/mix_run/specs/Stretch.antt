@@ -6,7 +6,7 @@ use Rattle.mix_session.specs.declared.reply.Told.TheVariants.{Accepted}
 use Rattle.mix_run.specs.Asked.{after_lines, answers, asked, is_over, recalled_all}
 use Rattle.mix_run.specs.Opening.{Files, Saved}
 use Rattle.mix_run.specs.Reload.{moment_of, reloaded}
-use Rattle.mix_run.specs.Saves.{saves}
+use Rattle.mix_run.specs.Saves.{is_save, saves_of}
 use Rattle.mix_run.specs.Sources.{is_reload, stands_for}
 use Rattle.mix_run.specs.declared.talk.aside.Talker.{Talker}
 use Rattle.mix_run.specs.declared.talk.moment.Moment.{Moment}
@@ -32,7 +32,7 @@ in_session m talker all =
       bytes = said.bytes;
       told = said.told;
       over = is_over talker all;
-      saved = saves m.origin m.session talker m.recall all;
+      saved = [];
     }
 
 -- one stretch, and the next one, unless the first ends the talk
@@ -47,10 +47,17 @@ joined first next =
       saved = first.saved ++ next.saved;
     }
 
--- a typed line: it reloads the source, or the lines that it stands for are heard
+-- what was done is saved, and a blank line repeats nothing
+abbrev pub saving : Moment → List ℕ → Stretch
+saving m line =
+    record (silent (moment_of m.session (record m.recall { again = [] }) m.origin)) { saved = saves_of m.origin m.recall.done line }
+
+-- a typed line: it reloads the source, saves what was done, or the lines that it stands for are heard; no line of a file reloads or saves
 abbrev pub typed_line : Files → Moment → Talker → List ℕ → Stretch
 typed_line all m talker line =
-    if is_reload talker line then silent (reloaded (all m.origin.name) m) else in_session m talker (stands_for all talker line)
+    if is_reload talker line then silent (reloaded (all m.origin.name) m)
+    else if is_save talker line then saving m line
+    else in_session m talker (stands_for all talker line)
 
 -- the typed lines of a talk, each at the moment that the ones before it led to
 abbrev pub talk_of : Files → Moment → Talker → List (List ℕ) → Stretch

@@ -39,10 +39,16 @@ sign_of (negsuc n) = Minus
 abbrev pub whole : ℤ → FieldValue
 whole n = Number (sign_of n) (unsigned_abs n)
 
--- a field without quotes
+-- a text that a spreadsheet would take for a formula, since it begins with = + - @, a tab or a carriage return, is after an apostrophe
+abbrev pub unevaluated : List ℕ → List ℕ
+unevaluated [] = []
+unevaluated (byte ∷ rest) =
+    if byte == 61 || byte == 43 || byte == 45 || byte == 64 || byte == 9 || byte == 13 then 39 ∷ byte ∷ rest else byte ∷ rest
+
+-- a field of CSV without quotes
 abbrev pub plain_text : FieldValue → List ℕ
 plain_text (Number sign n) = signed_text sign n
-plain_text (Text text) = text
+plain_text (Text text) = unevaluated text
 plain_text Missing = []
 
 -- ---- CSV and JSON, as the crates csv and json write them
@@ -86,7 +92,7 @@ is_latex_sign byte = byte == 35 || byte == 36 || byte == 37 || byte == 38 || byt
 abbrev pub latex_byte : ℕ → List ℕ
 latex_byte byte =
     if is_latex_sign byte then 92 ∷ byte ∷ [] else
-    if byte == 34 then codes "\\textquotedbl{}" else
+    if byte == 34 then codes "\\char34{}" else
     if byte == 60 then codes "\\textless{}" else
     if byte == 62 then codes "\\textgreater{}" else
     if byte == 92 then codes "\\textbackslash{}" else

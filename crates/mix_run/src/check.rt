@@ -1,10 +1,10 @@
 //! What is wrong with some sources: their reports, one after the other.
 
 ghost use Rattle.std.specs.Prelude.{◌≡◌, ◌<◌, ◌+◌, ◌-◌, ◌^◌, ◌++◌, ◌∷◌, ◌||◌, [], ℕ, Bool, List, Some, Err, IfErr, IfOk, OnOk, false};
-ghost use Rattle.mix_check.specs.Report.{has_faults};
+ghost use Rattle.mix_check.specs.Report.{Adds, Report, has_faults};
 ghost use Rattle.mix_stream.specs.Stream.{ConsumesAtMost, CountsFailure};
 ghost use Rattle.mixal_asm.specs.Assembly.{max_source_bytes};
-ghost use Rattle.mix_run.specs.Check.{Named, Reported, check_output, report_of};
+ghost use Rattle.mix_run.specs.Check.{Checks, Named, Reported};
 ghost use Rattle.mix_run.specs.Fault.{IsMemoryOrRead};
 ghost use Rattle.mix_run.specs.Output.{IsStatus, Meets};
 
@@ -42,7 +42,7 @@ fn add_one(
     json: bool,
     text: &mut Vec<u8>,
 ) -> Result<bool, Memory>
-    ensures report { OnOk result (text.new.items ≡ text.old.items ++ report_of json (record { name = name.now; text = source.now })) }
+    ensures report { OnOk result (Adds (Report json name.now source.now) text.old.items text.new.items) }
     ensures faulty { IfOk result (λ faulty. faulty ≡ has_faults source.now) }
 {
     if json {
@@ -62,7 +62,7 @@ fn report_source<S: In>(
 ) -> Result<(), ToolFault>
     requires { S.failed source.old < 2 ^ 64 - 1 }
     ensures report { (s : List ℕ) → S.rest source.old ≡ Some s
-        → OnOk result (reports.new.text.items ≡ reports.old.text.items ++ report_of json (record { name = name.now; text = s })) }
+        → OnOk result (Adds (Report json name.now s) reports.old.text.items reports.new.text.items) }
     ensures faulty { (s : List ℕ) → S.rest source.old ≡ Some s → OnOk result (reports.new.faulty ≡ (reports.old.faulty || has_faults s)) }
     ensures read { CountsFailure (result ≡ Err ToolFault.Read) (S.failed source.old) (S.failed source.new) }
     ensures source { ConsumesAtMost (S.rest source.old) (S.rest source.new) (max_source_bytes + 1) }
@@ -114,7 +114,7 @@ pub fn write_reports<W: Out>(
 
     // What is written is the reports of exactly these sources, in their order.
     ensures output { (json : Bool) (sources : List Named) → Reported json sources reports
-        → Meets (check_output json sources) result (W.told out.old) (W.told out.new) }
+        → Checks json sources (λ outcome. Meets outcome result (W.told out.old) (W.told out.new)) }
 
     // A write has failed exactly if that is answered; after a fault nothing is written.
     ensures write { IfOk reports (λ _. CountsFailure (result ≡ Err ToolFault.Write) (W.failed out.old) (W.failed out.new)) }

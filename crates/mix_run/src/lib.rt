@@ -13,17 +13,19 @@ mod map;
 mod opener;
 mod print;
 mod reason;
+mod replaces;
 mod run;
 mod statuses;
 mod table;
 mod talk;
+mod typeset;
 mod units;
 
 pub use beside::tell_report;
 pub use bundle::run_bundle;
 pub use check::{Reports, no_reports, report_next, write_reports};
 pub use fault::ToolFault;
-pub use list::run_list;
+pub use list::{run_list, run_typeset};
 pub use mix_machine::{Conflict, Direction, MixFault};
 pub use mix_session::{
     AsmFault, AsmKind, Counted, DeckFault, DeckKind, Failed, In, Out, Refusal, Session, Told,
@@ -33,6 +35,7 @@ pub use opener::{Opener, Unread, Unsaved};
 pub use print::options::{AskedTable, PrintOptions, TableOf, UnitSet};
 pub use print::{ConflictAt, Conflicts, PrintAnswer, Printed, RanTo, RunEnd, run_printed};
 pub use reason::Reason;
+pub use replaces::{Replaces, may_go};
 pub use run::{DebugOptions, run_debug};
 pub use statuses::{DONE, NOT_DONE, SOURCE_REFUSED};
 pub use table::TableFormat;

@@ -10,8 +10,9 @@ ghost use Rattle.mix_run.specs.Output.{Meets, Ended, IsStatus, list_output};
 
 use crate::fault::ToolFault;
 use crate::statuses::{DONE, refuse_source};
+use crate::typeset::typeset;
 use mix_refused::Refused;
-use mix_stream::{In, Out, read_up_to};
+use mix_stream::{In, Out, read_up_to, write_all};
 use mixal_asm::{MAX_SOURCE_BYTES, Program, assemble};
 use std::alloc::Global;
 
@@ -56,5 +57,31 @@ pub fn run_list<R: In, W: Out>(alloc: Global, source: &mut R, out: &mut W) -> Re
         Err(Refused::Memory) => Err(ToolFault::Memory),
         Err(Refused::Fault(fault)) => refuse_source(alloc, fault, out),
         Ok(program) => list(alloc, &program, out),
+    }
+}
+
+/// The same with the lines of the program in the columns of the book, as a table of LaTeX, instead of its listing.
+pub fn run_typeset<R: In, W: Out>(
+    alloc: Global,
+    source: &mut R,
+    out: &mut W,
+) -> Result<u8, ToolFault>
+    requires source_count { R.failed source.old < 2 ^ 64 - 1 }
+    requires out_count { W.failed out.old < 2 ^ 64 - 1 }
+    ensures read { CountsFailure (result ≡ Err ToolFault.Read) (R.failed source.old) (R.failed source.new) }
+    ensures write { CountsFailure (result ≡ Err ToolFault.Write) (W.failed out.old) (W.failed out.new) }
+    ensures unread { result ≡ Err ToolFault.Read → Keeps (W.told out.old) (W.told out.new) }
+    ensures source { ConsumesAtMost (R.rest source.old) (R.rest source.new) (max_source_bytes + 1) }
+    ensures ends { IfOk result IsStatus }
+{
+    let text = read_up_to(alloc, source, MAX_SOURCE_BYTES + 1)?;
+    match assemble(alloc, &text) {
+        Err(Refused::Memory) => Err(ToolFault::Memory),
+        Err(Refused::Fault(fault)) => refuse_source(alloc, fault, out),
+        Ok(program) => {
+            let table = typeset(alloc, &program, None)?;
+            write_all(out, &table)?;
+            Ok(DONE)
+        }
     }
 }

@@ -1,10 +1,11 @@
 //! What opens files by their names, reads them, and saves texts in them.
 
-ghost use Rattle.std.specs.Prelude.{◌≡◌, ◌∷◌, [], ℕ, List, Option, Some, IfOk};
-ghost use Rattle.mix_run.specs.Opening.{Asks, Files, Gives, GivesText, Saved, WhyUnsaved, noted, refused_by, rest_given};
+ghost use Rattle.std.specs.Prelude.{◌≡◌, ◌∷◌, [], ℕ, List, Option, Some, IfOk, OnOk, false};
+ghost use Rattle.mix_run.specs.Opening.{Asks, Files, Gives, GivesText, Saved, WhyUnsaved, is_saved, may_replace, noted, refused_by, rest_given};
 
 use crate::reason::Reason;
-use mix_refused::Refused;
+use crate::replaces::Replaces;
+use mix_refused::{Memory, Refused};
 use mix_stream::In;
 use std::alloc::Global;
 
@@ -24,6 +25,8 @@ pub enum Unsaved {
     NotOpened(Reason),
     /// The text, or a part of it, can't be written.
     NotWritten(Reason),
+    /// The file holds something that may not be replaced.
+    Taken,
 }
 
 /// What opens files by their names, reads them, and saves texts in them.
@@ -39,7 +42,7 @@ pub trait Opener {
     // The names of the files that were to be created so far, in their order, where they are known.
     ghost created: { Self → Option (List (List ℕ)) };
 
-    // The texts that were to be saved so far, in their order, each with the name of its file, where they are known.
+    // The texts that were to be saved so far, in their order, each with the name of its file and what that may hold, where they are known.
     ghost saved: { Self → Option (List Saved) };
 
     // Why the last text that was not saved was not; none where each was.
@@ -64,12 +67,24 @@ pub trait Opener {
         ensures nothing_saved { saved self.new ≡ saved self.old }
         ensures nothing_refused { refusal self.new ≡ refusal self.old };
 
+    /// Whether a text may be saved in a file of this name, by what the file holds. Memory may be refused.
+    fn may_replace(&self, alloc: Global, name: &[u8], over: Replaces) -> Result<bool, Memory>
+        ensures known { (all : Files) → holds self.now ≡ Some all → IfOk result (λ may. may ≡ may_replace over (all name.now)) };
+
     /// Saves a text in a file of this name, or says why not, or memory is refused. A file that is
-    /// there already is to hold either what it held or the whole text, and never a part of it; a
-    /// device is written to as it is.
-    fn save(&mut self, alloc: Global, name: &[u8], text: &[u8]) -> Result<(), Refused<Unsaved>>
+    /// there already is replaced only if it is empty or holds what may be replaced; it is to hold
+    /// either what it held or the whole text, and never a part of it. A device is written to as it is.
+    fn save(
+        &mut self,
+        alloc: Global,
+        name: &[u8],
+        text: &[u8],
+        over: Replaces,
+    ) -> Result<(), Refused<Unsaved>>
         ensures created { Asks (created self.old) (created self.new) (name.now ∷ []) }
-        ensures saved { saved self.new ≡ noted (saved self.old) ((name.now, text.now) ∷ []) }
+        ensures saved { saved self.new ≡ noted (saved self.old) (record { name = name.now; text = text.now; over = over } ∷ []) }
+        ensures taken { (all : Files) (before : List Saved) → holds self.old ≡ Some all → saved self.old ≡ Some before → is_saved before name.now ≡ false
+            → may_replace over (all name.now) ≡ false → OnOk result ⊥ }
         ensures refused { refusal self.new ≡ refused_by (refusal self.old) result }
         ensures same { holds self.new ≡ holds self.old }
         ensures nothing_asked { asked self.new ≡ asked self.old };

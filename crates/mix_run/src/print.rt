@@ -1,5 +1,5 @@
 //! A program run to its end, and what it prints.
-ghost use Rattle.std.specs.Prelude.{◌≡◌, ◌<◌, ◌-◌, ◌^◌, ◌||◌, is_some};
+ghost use Rattle.std.specs.Prelude.{◌≡◌, ◌<◌, ◌-◌, ◌^◌, ◌||◌, ℕ, List, is_some};
 ghost use Rattle.mix_run.specs.Drawn.{DrawnRun};
 ghost use Rattle.mix_run.specs.PrintOutput.{Leaves, outcome_of_run};
 
@@ -58,7 +58,7 @@ pub struct Printed {
 /// step is written before what it prints, as the command `trace` has it. If `options.keep` is true, the deck of what the units hold at the end is left. It
 /// keeps nothing of the steps, so it takes no more memory for many steps than for few. If `options.table` is one, a table is written instead of the rows
 /// and the lines, and no conflict is looked for. That of the counts, how often each instruction was executed, and that of the formulas, by the values of
-/// names in `subject`, as `N=10,A=1`, are written at the end of the run, which is one of a session, keeps its history and does at most 4,294,967,295 steps.
+/// names in `subject`, as `N=10,A=1`, are written at the end of the run, which is one of a session, keeps its history and does at most 4,294,967,295 steps. In LaTeX the counts stand beside the lines of the program.
 /// The tables of the steps, all of them or those that altered the part which `subject` names as `show writes` has it, are written row by row. If
 /// `options.map` is true, the map of its steps, an SVG picture of its lines against its changes, is left; for that the steps are done in such a session
 /// too. Where `subject` names no part or gives no values, why is the answer, and nothing is run or written.
@@ -74,7 +74,7 @@ pub fn run_printed<W: Out>(
     out: &mut W,
 ) -> Result<Printed, ToolFault>
     requires { W.failed out.old < 2 ^ 64 - 1 }
-    ensures { Leaves (outcome_of_run options subject.now program units) (DrawnRun options subject.now program units) result
+    ensures { (latex : List ℕ) × Leaves (outcome_of_run latex options subject.now program units) (DrawnRun options subject.now program units) result
         (W.told out.old) (W.failed out.old) (W.told out.new) (W.failed out.new) }
 {
     match end_table_asked(alloc, options.table, subject)? {

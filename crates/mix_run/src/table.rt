@@ -1,16 +1,18 @@
 //! A table of numbers and texts, as CSV, JSON or LaTeX.
-ghost use Rattle.std.specs.Prelude.{◌≡◌, ◌++◌, OnOk};
-ghost use Rattle.mix_run.specs.Table.{footer_text, header_text, row_text};
+ghost use Rattle.std.specs.Prelude.{◌≡◌, ◌++◌, IfOk, OnOk, map};
+ghost use Rattle.csv.specs.Records.{fields_of};
+ghost use Rattle.csv.specs.Writing.{default_writer, row_text as csv_text};
+ghost use Rattle.mix_run.specs.Table.{csv_row, footer_text, header_text, plain_text, row_text};
 
-mod comma_separated;
 mod field;
 mod latex;
 mod objects;
 
-use crate::table::comma_separated::add_record;
 use crate::table::latex::{add_latex_header, add_latex_row};
 use crate::table::objects::add_object;
+use csv::{ByteRecord, Writer};
 pub(crate) use field::Field;
+pub(crate) use latex::add_byte;
 use mix_refused::Memory;
 use std::alloc::Global;
 
@@ -66,16 +68,44 @@ pub(crate) fn add_row(
 pub(crate) fn add_footer(text: &mut Vec<u8>, format: TableFormat) -> Result<(), Memory>
     ensures { OnOk result (text.new.items ≡ text.old.items ++ footer_text format) }
 {
-    text.extend_from_slice(footer(format))?;
+    match format {
+        TableFormat::Csv => {}
+        TableFormat::Json => text.extend_from_slice(b"\n]\n")?,
+        TableFormat::Latex => text.extend_from_slice(b"\\bottomrule\n\\end{tabular}\n")?,
+    }
     Ok(())
 }
 
-fn footer(format: TableFormat) -> &'static [u8]
-    ensures { result.now ≡ footer_text format }
+// Appends a row of CSV, as the crate csv writes it.
+fn add_record(alloc: Global, text: &mut Vec<u8>, fields: &[Field<'_>]) -> Result<(), Memory>
+    ensures { OnOk result (text.new.items ≡ text.old.items ++ csv_row fields.now) }
 {
-    match format {
-        TableFormat::Csv => b"",
-        TableFormat::Json => b"\n]\n",
-        TableFormat::Latex => b"\\bottomrule\n\\end{tabular}\n",
+    let row = row_of(alloc, fields)?;
+    let line = line_of(alloc, &row)?;
+    text.extend_from_slice(line.as_slice())?;
+    Ok(())
+}
+
+fn row_of(alloc: Global, fields: &[Field<'_>]) -> Result<ByteRecord, Memory>
+    ensures { IfOk result (λ row. fields_of row ≡ map plain_text fields.now) }
+{
+    let mut row = ByteRecord::new(alloc);
+    for field in fields {
+        let text = field.plain(alloc)?;
+        row.push_field(text.as_bytes())?;
+    }
+    Ok(row)
+}
+
+fn line_of(alloc: Global, row: &ByteRecord) -> Result<Vec<u8>, Memory>
+    ensures { IfOk result (λ line. line.items ≡ csv_text default_writer (fields_of row.now)) }
+{
+    let mut writer = Writer::from_writer(Vec::new(alloc));
+    if writer.write_byte_record(row).is_err() {
+        return Err(Memory);
+    }
+    match writer.into_inner() {
+        Ok(line) => Ok(line),
+        Err(_) => Err(Memory),
     }
 }

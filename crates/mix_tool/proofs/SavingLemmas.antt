@@ -14,7 +14,7 @@ use Rattle.mix_plan.specs.declared.plan.Plan.TheVariants as plan
 use Rattle.mix_tool.proofs.CheckLemmas.{asks-nothing}
 use Rattle.mix_tool.specs.Plan.{SavesOn}
 use Rattle.mix_tool.specs.Run.{Given, Prints}
-use Rattle.mix_tool.specs.Ending.{ByEnd, Creates, EndsWith, Saves, answer_of, saved_after, saved_as, saved_by, status_of_end, status_of_print}
+use Rattle.mix_tool.specs.Ending.{ByEnd, Creates, EndsWith, Saves, answer_of, saved_after, saved_both, saved_by, status_of_end, status_of_print}
 
 -- what holds after a run: this if it came to its end, and else that
 abbrev pub AfterEnd : Result PrintAnswer ToolFault → Type 0 → Type 0 → Type 0
@@ -50,16 +50,16 @@ created-after names (Err fault) old new h = h
 
 saves-after : (outcome : PrintOutcome) (IsDrawn : List ℕ → Type 0) (run : Result Printed ToolFault) (keep svg : Option (List ℕ)) (a b : Option (List ℕ))
     (old new : Option (List Saved)) → Prints outcome run a b → IfOk run (λ p. IsDrawn p.map.items) → new ≡ noted old (saved_by keep svg run)
-    → AfterEnd (answer_of run) ((m : List ℕ) × IsDrawn m × (new ≡ noted old (saved_as keep (kept_of outcome) ++ saved_as svg m))) (new ≡ old)
+    → AfterEnd (answer_of run) ((m : List ℕ) × IsDrawn m × (new ≡ noted old (saved_both keep svg (kept_of outcome) m))) (new ≡ old)
 saves-after outcome IsDrawn (Err fault) keep svg a b old new prints drawn saved = saved
 saves-after outcome IsDrawn (Ok printed) keep svg a b old new prints drawn saved = go printed.answer saved
   where
     map : List ℕ
     map = printed.map.items
 
-    go : (answer : PrintAnswer) → new ≡ noted old (saved_after (saved_as keep printed.deck.items ++ saved_as svg map) (Ok answer))
-        → AfterEnd (Ok answer) ((m : List ℕ) × IsDrawn m × (new ≡ noted old (saved_as keep (kept_of outcome) ++ saved_as svg m))) (new ≡ old)
-    go (answers.Ran ran) is = (map, drawn, is ∙ ap (λ (d : List ℕ). noted old (saved_as keep d ++ saved_as svg map)) (sym (ap kept_of prints.0)))
+    go : (answer : PrintAnswer) → new ≡ noted old (saved_after (saved_both keep svg printed.deck.items map) (Ok answer))
+        → AfterEnd (Ok answer) ((m : List ℕ) × IsDrawn m × (new ≡ noted old (saved_both keep svg (kept_of outcome) m))) (new ≡ old)
+    go (answers.Ran ran) is = (map, drawn, is ∙ ap (λ (d : List ℕ). noted old (saved_both keep svg d map)) (sym (ap kept_of prints.0)))
     go (answers.Refused fault) is = is
     go (answers.NoTable refusal) is = is
 
@@ -87,6 +87,7 @@ creates-none names status old new e same = rw (e, same) (inl (asks-nothing old))
 pub saves-none : (p : Plan) (given : Given) (status : ℕ) (old new : Option (List Saved)) → status ≡ 2 → new ≡ old → SavesOn p given status old new
 saves-none plan.Bundle given status old new e same = tt
 saves-none (plan.List source) given status old new e same = tt
+saves-none (plan.Typeset source) given status old new e same = tt
 saves-none (plan.Check sources json) given status old new e same = tt
 saves-none (plan.Debug session) given status old new e same = tt
 saves-none (plan.Run run) given status old new e same = rw e (inl same)

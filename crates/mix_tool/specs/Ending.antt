@@ -20,6 +20,8 @@ use Rattle.mix_machine.specs.declared.units.deck_fault.DeckFault.{DeckFault}
 use Rattle.mix_run.specs.declared.fault.ToolFault.{ToolFault}
 use Rattle.mix_run.specs.declared.fault.ToolFault.TheVariants as faults
 use Rattle.mix_run.specs.Opening.{Asks, Files, Saved, WhyUnsaved, noted}
+use Rattle.mix_run.specs.declared.replaces.Replaces.{Replaces}
+use Rattle.mix_run.specs.declared.replaces.Replaces.TheVariants as replaces
 use Rattle.mix_run.specs.Reason.{reason_text}
 use Rattle.mix_run.specs.declared.reason.Reason.{Reason}
 
@@ -59,9 +61,13 @@ IsFileOf names (Some name) = IsAmong names name
 abbrev pub not_opened : List ℕ → Reason → List ℕ
 not_opened name reason = codes "mixrev: T4 not opened: " ++ (name ++ (reason_text reason ++ 10 ∷ []))
 
--- `mixrev: T3 write failed: NAME`
-abbrev pub not_written : List ℕ → List ℕ
-not_written name = codes "mixrev: " ++ (tool_fault_text faults.Write ++ (codes ": " ++ (name ++ 10 ∷ [])))
+-- `mixrev: T3 write failed: NAME: No space left on device`
+abbrev pub not_written : List ℕ → Reason → List ℕ
+not_written name reason = codes "mixrev: " ++ (tool_fault_text faults.Write ++ (codes ": " ++ (name ++ (reason_text reason ++ 10 ∷ []))))
+
+-- `mixrev: T8 not replaced: NAME: it holds something else`
+unfoldable pub not_replaced : List ℕ → List ℕ
+not_replaced name = codes "mixrev: T8 not replaced: " ++ (name ++ (codes ": it holds something else" ++ 10 ∷ []))
 
 -- the status of a run: 2 where the tool itself failed
 abbrev pub status_of_run : Result ℕ ToolFault → ℕ
@@ -153,17 +159,21 @@ ByEnd (suc (suc (suc status))) Ended Other = Ended
 abbrev pub Creates : List (List ℕ) → ℕ → Option (List (List ℕ)) → Option (List (List ℕ)) → Type 0
 Creates names status old new = ByEnd status (Asks old new names) (Asks old new [])
 
--- a text that is saved in a file, if one is named for it
-abbrev pub saved_as : Option (List ℕ) → List ℕ → List Saved
-saved_as None text = []
-saved_as (Some name) text = (name, text) ∷ []
+-- a text that is saved in a file, if one is named for it, and what that file may hold to be replaced
+abbrev pub saved_as : Replaces → Option (List ℕ) → List ℕ → List Saved
+saved_as over None text = []
+saved_as over (Some name) text = record { name = name; text = text; over = over } ∷ []
+
+-- a deck replaces a deck, and a picture a picture
+abbrev pub saved_both : Option (List ℕ) → Option (List ℕ) → List ℕ → List ℕ → List Saved
+saved_both keep svg deck map = saved_as replaces.Deck keep deck ++ saved_as replaces.Picture svg map
 
 -- what is saved of what a run leaves, if it has come to its end
 abbrev pub saved_by : Option (List ℕ) → Option (List ℕ) → Result Printed ToolFault → List Saved
-saved_by keep svg (Ok printed) = saved_after (saved_as keep printed.deck.items ++ saved_as svg printed.map.items) (Ok printed.answer)
+saved_by keep svg (Ok printed) = saved_after (saved_both keep svg printed.deck.items printed.map.items) (Ok printed.answer)
 saved_by keep svg (Err fault) = []
 
 -- what a run saves, if it has come to its end: in one file the deck of what its units hold, and in another one its map
 abbrev pub Saves : PrintOutcome → (List ℕ → Type 0) → Option (List ℕ) → Option (List ℕ) → ℕ → Option (List Saved) → Option (List Saved) → Type 0
 Saves outcome IsDrawn keep svg status old new =
-    ByEnd status ((map : List ℕ) × IsDrawn map × (new ≡ noted old (saved_as keep (kept_of outcome) ++ saved_as svg map))) (new ≡ old)
+    ByEnd status ((map : List ℕ) × IsDrawn map × (new ≡ noted old (saved_both keep svg (kept_of outcome) map))) (new ≡ old)

@@ -1,21 +1,24 @@
 -- What a plan does: the files that it opens, in their order, and the run that it makes on their texts.
-use Rattle.std.specs.Prelude.{◌≡◌, ◌≤◌, ◌⊎◌, ⊤, ℕ, Bool, true, false, not, List, [], ◌∷◌, ◌++◌, Option, None, Some, option_map, is_some, map, string_bytes}
-use Rattle.std.specs.Option.{option_map_or}
+use Rattle.std.specs.Prelude.{◌≡◌, ◌≤◌, ◌⊎◌, ⊤, ℕ, Bool, true, false, not, List, [], ◌∷◌, ◌++◌, Option, None, Some, Result, option_map, is_some, map, string_bytes, if◌then◌else◌}
+use Rattle.std.specs.Option.{option_map_or, option_or}
 use Rattle.mixal_asm.specs.Assembly.{assembly}
 use Rattle.mix_machine.specs.units.deck.Deck.{deck_of}
 use Rattle.mix_plan.specs.declared.plan.DebugPlan.{DebugPlan}
 use Rattle.mix_plan.specs.declared.plan.Plan.{Plan}
 use Rattle.mix_plan.specs.declared.plan.Plan.TheVariants as plan
 use Rattle.mix_plan.specs.declared.run.RunPlan.{RunPlan}
-use Rattle.mix_run.specs.Check.{Named, check_output}
+use Rattle.mix_run.specs.Check.{Checks, Named}
 use Rattle.mix_run.specs.Debug.{debug_output, origin_given}
 use Rattle.mix_run.specs.Output.{bundle_output, list_output}
+use Rattle.mix_run.specs.declared.fault.ToolFault.{ToolFault}
 use Rattle.mix_run.specs.declared.talk.Streams.{Streams}
 use Rattle.mix_run.specs.declared.talk.aside.Talker.{Talker}
-use Rattle.mix_tool.specs.Ending.{Runs, Saves, Seen, TalkRuns, Tells, not_opened}
+use Rattle.mix_tool.specs.Ending.{IsFileOf, Runs, Saves, Seen, TalkRuns, Tells, TellsRun, not_opened, not_replaced, status_of_run}
 use Rattle.mix_tool.specs.Run.{Given, IsUnread, subject_of, run_draws, run_output}
-use Rattle.mix_tool.specs.Told.{PrintRuns}
-use Rattle.mix_run.specs.Opening.{Files, Missing, Saved, WhyUnsaved, missing_of, named, opened_text, text_of}
+use Rattle.mix_tool.specs.Told.{PrintRuns, TellsAll}
+use Rattle.mix_run.specs.Opening.{Files, Missing, Saved, WhyUnsaved, may_replace, missing_of, named, opened_text, text_of}
+use Rattle.mix_run.specs.declared.replaces.Replaces.{Replaces}
+use Rattle.mix_run.specs.declared.replaces.Replaces.TheVariants as replaces
 use Rattle.mix_tool.specs.declared.texts.Names.{Names}
 use Rattle.mix_tool.specs.declared.texts.Texts.{Texts}
 
@@ -30,6 +33,7 @@ pub record FileNames : Type 0 where
 abbrev pub names_of : Plan → FileNames
 names_of plan.Bundle = record { source = None; deck = None; cards = None; typewriter = None; script = None }
 names_of (plan.List source) = record { source = Some (string_bytes source); deck = None; cards = None; typewriter = None; script = None }
+names_of (plan.Typeset source) = record { source = Some (string_bytes source); deck = None; cards = None; typewriter = None; script = None }
 names_of (plan.Check sources json) = record { source = None; deck = None; cards = None; typewriter = None; script = None }
 names_of (plan.Debug session) =
     record {
@@ -58,6 +62,7 @@ in_order names = named names.source ++ (named names.deck ++ (named names.cards +
 abbrev pub sources_of : Plan → List (List ℕ)
 sources_of plan.Bundle = []
 sources_of (plan.List source) = []
+sources_of (plan.Typeset source) = []
 sources_of (plan.Check sources json) = map string_bytes sources.items
 sources_of (plan.Debug session) = []
 sources_of (plan.Run run) = []
@@ -154,6 +159,30 @@ DebugsOn all session given talker status before after =
     (debug_output session.echo has_deck given.source given.deck given.script) status before after)
     ((t : List ℕ) → before.input ≡ Some t → TalkRuns all origin (assembly origin.source) (deck_of origin.deck) talker t status before after)
 
+-- a file, if one is named, that holds what may not be replaced
+abbrev pub taken_name : Files → Replaces → Option (List ℕ) → Option (List ℕ)
+taken_name all over None = None
+taken_name all over (Some name) = if may_replace over (all name) then None else Some name
+
+-- of the files in which a run saves its deck and its map, the first such one
+abbrev pub taken_of : Files → RunPlan → Option (List ℕ)
+taken_of all run =
+    option_or (taken_name all replaces.Deck (option_map string_bytes run.keep)) (taken_name all replaces.Picture (option_map string_bytes run.svg))
+
+-- that is told, and nothing is done; it is never so of a run of which no file is taken
+abbrev pub IsTaken : Option (List ℕ) → ℕ → Seen → Seen → Type 0
+IsTaken None status before after = ⊥
+IsTaken (Some name) status before after =
+    (status ≡ 2) × (after.input ≡ before.input) × (after.out ≡ before.out) × (after.refusal ≡ before.refusal)
+    × TellsAll (not_replaced name ∷ []) (record { told = before.errors; failed = before.failed }) (record { told = after.errors; failed = after.failed })
+
+-- a run of a program: it is made, unless a file is taken
+abbrev pub PrintsOn : Files → RunPlan → Given → ℕ → Seen → Seen → Type 0
+PrintsOn all run given status before after =
+    ((latex : List ℕ) × PrintRuns (run_output latex run given) (names_of_run run) (string_bytes run.source) (subject_of (option_map string_bytes run.subject))
+    (option_map string_bytes run.keep) (option_map string_bytes run.svg) status before after)
+    ⊎ IsTaken (taken_of all run) status before after
+
 -- whether a session is by the lines of the input
 abbrev pub is_talk : {Name : Type 0} → Option Name → Bool
 is_talk (Some script) = false
@@ -163,12 +192,13 @@ is_talk None = true
 abbrev pub RunsOn : Files → Plan → Given → Talker → ℕ → Seen → Seen → Type 0
 RunsOn all plan.Bundle given talker status before after = (b : List ℕ) → before.input ≡ Some b → Runs [] (bundle_output b) status before after
 RunsOn all (plan.List source) given talker status before after = Runs (string_bytes source ∷ []) (list_output given.source) status before after
+RunsOn all (plan.Typeset source) given talker status before after =
+    (run : Result ℕ ToolFault) × (file : Option (List ℕ)) × (status ≡ status_of_run run) × IsFileOf (string_bytes source ∷ []) file
+    × TellsRun run file before.errors after.errors before.failed after.failed
 RunsOn all (plan.Check sources json) given talker status before after =
-    Runs (map string_bytes sources.items) (check_output json (named_of all (map string_bytes sources.items))) status before after
+    Checks json (named_of all (map string_bytes sources.items)) (λ outcome. Runs (map string_bytes sources.items) outcome status before after)
 RunsOn all (plan.Debug session) given talker status before after = DebugsOn all session given talker status before after
-RunsOn all (plan.Run run) given talker status before after =
-    PrintRuns (run_output run given) (names_of_run run) (string_bytes run.source) (subject_of (option_map string_bytes run.subject)) (option_map string_bytes run.keep)
-    (option_map string_bytes run.svg) status before after
+RunsOn all (plan.Run run) given talker status before after = PrintsOn all run given status before after
 RunsOn all plan.Dap given talker status before after = status ≤ 2
 RunsOn all plan.Lsp given talker status before after = status ≤ 2
 
@@ -188,6 +218,7 @@ IsDone all p talker status before after =
 abbrev pub reads_input : Plan → Bool
 reads_input plan.Bundle = true
 reads_input (plan.List source) = false
+reads_input (plan.Typeset source) = false
 reads_input (plan.Check sources json) = false
 reads_input (plan.Debug session) = is_talk session.script
 reads_input (plan.Run run) = false
@@ -198,6 +229,7 @@ reads_input plan.Lsp = false
 abbrev pub hears_client : Plan → Bool
 hears_client plan.Bundle = false
 hears_client (plan.List source) = false
+hears_client (plan.Typeset source) = false
 hears_client (plan.Check sources json) = false
 hears_client (plan.Debug session) = false
 hears_client (plan.Run run) = false
@@ -217,6 +249,7 @@ speaks other = false
 abbrev pub is_quiet : Plan → Bool
 is_quiet plan.Bundle = true
 is_quiet (plan.List source) = true
+is_quiet (plan.Typeset source) = true
 is_quiet (plan.Check sources json) = true
 is_quiet (plan.Debug session) = not (is_talk session.script)
 is_quiet (plan.Run run) = false
@@ -227,6 +260,7 @@ is_quiet plan.Lsp = true
 abbrev pub creates_of : Plan → Option (List (List ℕ))
 creates_of plan.Bundle = None
 creates_of (plan.List source) = None
+creates_of (plan.Typeset source) = None
 creates_of (plan.Check sources json) = None
 creates_of (plan.Debug session) = None
 creates_of (plan.Run run) = Some (saved_names run)
@@ -236,5 +270,5 @@ creates_of plan.Lsp = None
 -- what a run on its texts saves
 abbrev pub SavesOn : Plan → Given → ℕ → Option (List Saved) → Option (List Saved) → Type 0
 SavesOn (plan.Run run) given status old new =
-    Saves (run_output run given) (run_draws run given) (option_map string_bytes run.keep) (option_map string_bytes run.svg) status old new
+    Saves (run_output [] run given) (run_draws run given) (option_map string_bytes run.keep) (option_map string_bytes run.svg) status old new
 SavesOn other given status old new = ⊤

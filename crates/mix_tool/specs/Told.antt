@@ -18,7 +18,7 @@ use Rattle.mix_session.specs.Conflicts.{conflict_text}
 use Rattle.mix_session.specs.Fault.{refusal_text}
 use Rattle.mix_session.specs.declared.fault.Refusal.{Refusal}
 use Rattle.mix_run.specs.PrintOutput.{PrintOutcome}
-use Rattle.mix_tool.specs.Ending.{IsFileOf, Seen, Wrote, answer_of, memory_line, not_opened, not_written, report, status_of_print}
+use Rattle.mix_tool.specs.Ending.{IsFileOf, Seen, Wrote, answer_of, memory_line, not_opened, not_replaced, not_written, report, status_of_print}
 use Rattle.mix_tool.specs.Run.{Prints}
 use Rattle.mix_word.specs.Text.{location_text}
 
@@ -105,11 +105,12 @@ answer_told name subject file (Err fault) = report fault file ∷ []
 
 -- ---- what is saved
 
--- why a text is not saved: T4, T3, or T1
+-- why a text is not saved: T4, T3, T8 or T1
 abbrev pub unsaved_line : List ℕ → WhyUnsaved → List ℕ
 unsaved_line name refused.Memory = memory_line
 unsaved_line name (refused.Fault (unsaved.NotOpened reason)) = not_opened name reason
-unsaved_line name (refused.Fault (unsaved.NotWritten reason)) = not_written name
+unsaved_line name (refused.Fault (unsaved.NotWritten reason)) = not_written name reason
+unsaved_line name (refused.Fault unsaved.Taken) = not_replaced name
 
 -- what is told of a text that was to be saved, if a file is named for it: nothing where it is there
 abbrev pub save_told : Option (List ℕ) → Result Unit WhyUnsaved → List (List ℕ)

@@ -27,6 +27,13 @@ pub(crate) fn names_in(plan: &Plan) -> Names<'_>
             typewriter: None,
             script: None,
         },
+        Plan::Typeset(source) => Names {
+            source: Some(source),
+            deck: None,
+            cards: None,
+            typewriter: None,
+            script: None,
+        },
         Plan::Debug(session) => Names {
             source: Some(session.source.as_str()),
             deck: session.devices.as_deref(),

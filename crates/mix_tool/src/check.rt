@@ -1,7 +1,7 @@
 //! A check of the sources of some files.
 
 ghost use Rattle.std.specs.Prelude.{◌≡◌, ◌≢◌, ◌<◌, ◌≤◌, ◌-◌, ◌^◌, ◌++◌, ◌∷◌, [], ℕ, List, None, Some, IfErr, IfOk, map, option_map, string_bytes};
-ghost use Rattle.mix_run.specs.Check.{Named, Reported, check_output};
+ghost use Rattle.mix_run.specs.Check.{Checks, Named, Reported};
 ghost use Rattle.mix_tool.specs.Ending.{IsFileOf, Runs};
 ghost use Rattle.mix_run.specs.Opening.{Asks, Files, Opens, asked_of, missing_of, opened_text};
 ghost use Rattle.mix_tool.specs.Plan.{DoneAfter, named_of, seen};
@@ -93,7 +93,7 @@ pub(crate) fn check_files<O: Opener, R: In, W: Out, E: Out>(
         → Asks (O.asked files.old) (O.asked files.new) (asked_of all (map string_bytes sources.now)) }
     ensures done { (all : Files) → O.holds files.old ≡ Some all → let names = map string_bytes sources.now in
         DoneAfter (missing_of all names)
-        (Runs names (check_output json (named_of all names)) result (seen R.rest W.told E.told E.failed (O.refusal files.old) streams.old) (seen R.rest W.told E.told E.failed (O.refusal files.new) streams.new))
+        (Checks json (named_of all names) (λ outcome. Runs names outcome result (seen R.rest W.told E.told E.failed (O.refusal files.old) streams.old) (seen R.rest W.told E.told E.failed (O.refusal files.new) streams.new)))
         result (seen R.rest W.told E.told E.failed (O.refusal files.old) streams.old) (seen R.rest W.told E.told E.failed (O.refusal files.new) streams.new) }
     ensures input { streams.new.input ≡ streams.old.input }
     ensures range { result ≤ 3 }

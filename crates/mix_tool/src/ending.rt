@@ -1,7 +1,7 @@
 //! How a run ends: its status, and what is told on the error output.
 
 ghost use Rattle.std.specs.Prelude.{◌≡◌, ◌<◌, ◌-◌, ◌^◌, ◌∷◌, ◌++◌, IfErr, IfOk, OnOk, MatchResult, option_map, string_bytes};
-ghost use Rattle.mix_tool.specs.Ending.{IsAmong, Tells, TellsRun, Wrote, failed_or, file_of_fault, memory_line, not_opened, not_written, report, status_of_run};
+ghost use Rattle.mix_tool.specs.Ending.{IsAmong, Tells, TellsRun, Wrote, failed_or, file_of_fault, memory_line, not_opened, not_replaced, not_written, report, status_of_run};
 ghost use Rattle.mix_tool.specs.Told.{TellsBeside, WroteBeside, beside};
 ghost use Rattle.mix_run.specs.Opening.{named};
 
@@ -73,11 +73,23 @@ pub(crate) fn not_opened_line(
     Ok(text)
 }
 
-pub(crate) fn not_written_line(alloc: Global, name: &str) -> Result<String, AllocError>
-    ensures { IfOk result (λ s. string_bytes s ≡ not_written name.now) }
+pub(crate) fn not_written_line(
+    alloc: Global,
+    name: &str,
+    reason: Reason,
+) -> Result<String, AllocError>
+    ensures { IfOk result (λ s. string_bytes s ≡ not_written name.now reason) }
 {
-    let fault = ToolFault::Write;
-    let text = format!(in alloc; "mixrev: {fault}: {name}\n")?;
+    let (fault, reason) = (ToolFault::Write, reason.text());
+    let text = format!(in alloc; "mixrev: {fault}: {name}{reason}\n")?;
+    Ok(text)
+}
+
+#[tactic(auto, unfolding(crate::specs::Ending::not_replaced))]
+pub(crate) fn not_replaced_line(alloc: Global, name: &str) -> Result<String, AllocError>
+    ensures { IfOk result (λ s. string_bytes s ≡ not_replaced name.now) }
+{
+    let text = format!(in alloc; "mixrev: T8 not replaced: {name}: it holds something else\n")?;
     Ok(text)
 }
 

@@ -1,16 +1,16 @@
 //! What the units hold at the end of a run, and its map, each saved in a file.
 
-ghost use Rattle.std.specs.Prelude.{◌≡◌, ◌≢◌, ◌≤◌, IfOk, OnOk, option_map, string_bytes};
-ghost use Rattle.mix_run.specs.Opening.{Asks, named, noted, refused_by};
-ghost use Rattle.mix_tool.specs.Ending.{EndsWith, answer_of, saved_after, saved_as, saved_by};
-ghost use Rattle.mix_tool.specs.Plan.{saved_names};
+ghost use Rattle.std.specs.Prelude.{◌≡◌, ◌≢◌, ◌≤◌, ◌∷◌, [], IfOk, IfSome, OnOk, Some, option_map, string_bytes};
+ghost use Rattle.mix_run.specs.Opening.{Asks, Files, named, noted, refused_by};
+ghost use Rattle.mix_tool.specs.Ending.{EndsWith, answer_of, not_replaced, saved_after, saved_as, saved_by};
+ghost use Rattle.mix_tool.specs.Plan.{saved_names, taken_name, taken_of};
 ghost use Rattle.mix_tool.specs.Told.{IsRefusable, SavesTold, TellsAll, beside, save_told, unsaved_line};
 
-use crate::ending::{not_opened_line, not_written_line, tell_beside};
+use crate::ending::{not_opened_line, not_replaced_line, not_written_line, tell_beside};
 use mix_cli::FAILED;
 use mix_plan::RunPlan;
-use mix_refused::Refused;
-use mix_run::{Opener, PrintAnswer, Printed, ToolFault, Unsaved};
+use mix_refused::{Memory, Refused};
+use mix_run::{Opener, PrintAnswer, Printed, Replaces, ToolFault, Unsaved};
 use mix_stream::Out;
 use std::alloc::{AllocError, Global};
 
@@ -21,20 +21,64 @@ fn unsaved_line(alloc: Global, name: &str, refused: Refused<Unsaved>) -> Result<
     match refused {
         Refused::Memory => Err(AllocError),
         Refused::Fault(Unsaved::NotOpened(reason)) => not_opened_line(alloc, name, reason),
-        Refused::Fault(Unsaved::NotWritten(_)) => not_written_line(alloc, name),
+        Refused::Fault(Unsaved::NotWritten(reason)) => not_written_line(alloc, name, reason),
+        Refused::Fault(Unsaved::Taken) => not_replaced_line(alloc, name),
     }
 }
 
-// Saves a text in a file, if one is named for it. What prevents that is told.
+// The name of a file, if one is named and holds what may not be replaced.
+fn taken_name<'n, O: Opener>(
+    files: &O,
+    alloc: Global,
+    name: &'n Option<String>,
+    over: Replaces,
+) -> Result<Option<&'n str>, Memory>
+    ensures { (all : Files) → O.holds files.now ≡ Some all
+        → IfOk result (λ taken. option_map (λ n. n.now) taken ≡ taken_name all over (option_map string_bytes name.now)) }
+{
+    match name {
+        None => Ok(None),
+        Some(name) => {
+            let may = files.may_replace(alloc, name.as_bytes(), over)?;
+            Ok(if may { None } else { Some(name.as_str()) })
+        }
+    }
+}
+
+/// The first file of a run's deck and its map that holds what may not be replaced; none where memory is refused, and a save looks again.
+pub(crate) fn taken<'p, O: Opener>(files: &O, alloc: Global, plan: &'p RunPlan) -> Option<&'p str>
+    ensures { (all : Files) → O.holds files.now ≡ Some all → IfSome result (λ name. taken_of all plan.now ≡ Some name.now) }
+{
+    match taken_name(files, alloc, &plan.keep, Replaces::Deck) {
+        Ok(None) => match taken_name(files, alloc, &plan.svg, Replaces::Picture) {
+            Ok(taken) => taken,
+            Err(Memory) => None,
+        },
+        Ok(taken) => taken,
+        Err(Memory) => None,
+    }
+}
+
+/// A file that may not be replaced is told, before a run is made.
+pub(crate) fn tell_taken<E: Out>(alloc: Global, name: &str, errors: &mut E) -> u8
+    ensures status { result ≡ 2 }
+    ensures told { TellsAll (not_replaced name.now ∷ []) (beside E.told E.failed errors.old) (beside E.told E.failed errors.new) }
+{
+    tell_beside(not_replaced_line(alloc, name), errors);
+    FAILED
+}
+
+// Saves a text in a file, if one is named for it, in place of what it may hold. What prevents that is told.
 fn save_named<O: Opener, E: Out>(
     files: &mut O,
     alloc: Global,
     name: &Option<String>,
     text: &[u8],
+    over: Replaces,
     errors: &mut E,
 ) -> Result<(), Refused<Unsaved>>
     ensures created { Asks (O.created files.old) (O.created files.new) (named (option_map string_bytes name.now)) }
-    ensures saved { O.saved files.new ≡ noted (O.saved files.old) (saved_as (option_map string_bytes name.now) text.now) }
+    ensures saved { O.saved files.new ≡ noted (O.saved files.old) (saved_as over (option_map string_bytes name.now) text.now) }
     ensures asked { O.asked files.new ≡ O.asked files.old }
     ensures refused { O.refusal files.new ≡ refused_by (O.refusal files.old) result }
     ensures refusable { IsRefusable (option_map string_bytes name.now) result }
@@ -43,7 +87,7 @@ fn save_named<O: Opener, E: Out>(
 {
     match name {
         None => Ok(()),
-        Some(name) => match files.save(alloc, name.as_bytes(), text) {
+        Some(name) => match files.save(alloc, name.as_bytes(), text, over) {
             Ok(()) => Ok(()),
             Err(refused) => {
                 let why = refused;
@@ -78,8 +122,9 @@ pub(crate) fn save_files<O: Opener, E: Out>(
     match printed {
         Ok(printed) => match printed.answer {
             PrintAnswer::Ran(_) => {
-                let kept = save_named(files, alloc, &plan.keep, &printed.deck, errors);
-                let drawn = save_named(files, alloc, &plan.svg, &printed.map, errors);
+                let (deck, picture) = (Replaces::Deck, Replaces::Picture);
+                let kept = save_named(files, alloc, &plan.keep, &printed.deck, deck, errors);
+                let drawn = save_named(files, alloc, &plan.svg, &printed.map, picture, errors);
                 match (kept, drawn) {
                     (Ok(()), Ok(())) => status,
                     (Err(_), _) | (_, Err(_)) => FAILED,

@@ -19,7 +19,7 @@ use crate::run::run_texts;
 use crate::texts::{Texts, open_texts};
 use mix_dap::{Library, serve_from};
 use mix_plan::Plan;
-use mix_run::{Opener, Streams, run_bundle, run_list};
+use mix_run::{Opener, Streams, run_bundle, run_list, run_typeset};
 use mix_stream::{In, Out};
 use std::alloc::Global;
 
@@ -57,6 +57,11 @@ fn run_on<O: Opener, R: In, W: Out, E: Out>(
         Plan::List(source) => {
             let mut texts = texts;
             let outcome = run_list(alloc, &mut texts.source, &mut streams.out);
+            status(alloc, outcome, Some(source), &mut streams.errors)
+        }
+        Plan::Typeset(source) => {
+            let mut texts = texts;
+            let outcome = run_typeset(alloc, &mut texts.source, &mut streams.out);
             status(alloc, outcome, Some(source), &mut streams.errors)
         }
         Plan::Check { sources, json } => check_files(files, alloc, sources, *json, streams),

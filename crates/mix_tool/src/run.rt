@@ -1,14 +1,14 @@
 //! A run of a plan: it is made on its texts, and what it leaves is saved.
 
-ghost use Rattle.std.specs.Prelude.{◌≡◌, ◌≢◌, ◌<◌, ◌≤◌, ◌-◌, ◌^◌, Err, IfErr, IfOk, option_map, string_bytes};
+ghost use Rattle.std.specs.Prelude.{◌≡◌, ◌≢◌, ◌<◌, ◌≤◌, ◌-◌, ◌^◌, ℕ, List, [], Err, IfErr, IfOk, Some, option_map, string_bytes};
+ghost use Rattle.mix_run.specs.Opening.{Files};
 ghost use Rattle.mix_stream.specs.Stream.{CountsFailure};
 ghost use Rattle.mix_tool.specs.Ending.{Creates, IsAmong, Saves};
-ghost use Rattle.mix_tool.specs.Plan.{AreFresh, HasFailed, HoldTexts, names_of_run, saved_names, seen};
-ghost use Rattle.mix_tool.specs.Run.{Given, Prints, subject_of, run_draws, run_output, without_file};
-ghost use Rattle.mix_tool.specs.Told.{PrintRuns};
+ghost use Rattle.mix_tool.specs.Plan.{AreFresh, HasFailed, HoldTexts, PrintsOn, names_of_run, saved_names, seen};
+ghost use Rattle.mix_tool.specs.Run.{Given, Prints, run_draws, run_output, without_file};
 
 use crate::asked::{options_of, subject_of};
-use crate::keep::save_files;
+use crate::keep::{save_files, taken, tell_taken};
 use crate::ran::print_status;
 use crate::read::{RunFault, of_file, read_text, units_of_run};
 use crate::texts::Texts;
@@ -31,7 +31,7 @@ fn print_texts<'p, T: In, R, W: Out, E: Out>(
     requires fresh { AreFresh T.failed texts.old }
     requires out_count { W.failed streams.old.out < 2 ^ 64 - 1 }
     ensures output { (given : Given) → HoldTexts T.rest texts.old given
-        → Prints (run_output plan.now given) (without_file result) (W.told streams.old.out) (W.told streams.new.out) }
+        → (latex : List ℕ) × Prints (run_output latex plan.now given) (without_file result) (W.told streams.old.out) (W.told streams.new.out) }
     ensures map { (given : Given) → HoldTexts T.rest texts.old given → IfOk (without_file result) (λ p. run_draws plan.now given p.map.items) }
     ensures file { IfErr result (λ e. IsAmong (names_of_run plan.now) e.file.now) }
     ensures unread { IfErr result (λ e. e.fault ≡ ToolFault.Read → HasFailed T.failed plan.now texts.new e.file.now) }
@@ -82,7 +82,7 @@ fn parted<'n>(
     }
 }
 
-/// The run of a plan on its texts: the source is read first, at most 41,943,041 bytes, and then what its units begin with, at most 33,554,433 of each
+/// The run of a plan on its texts. First it is looked whether the files of its deck and its map may be replaced. Then the source is read, at most 41,943,041 bytes, and then what its units begin with, at most 33,554,433 of each
 /// text, all of them before the first byte is written.
 pub(crate) fn run_texts<O: Opener, R: In, W: Out, E: Out>(
     files: &mut O,
@@ -93,17 +93,19 @@ pub(crate) fn run_texts<O: Opener, R: In, W: Out, E: Out>(
 ) -> u8
     requires fresh { AreFresh O.Reader.failed texts }
     requires out_count { W.failed streams.old.out < 2 ^ 64 - 1 }
-    ensures done { (given : Given) → HoldTexts O.Reader.rest texts given
-        → PrintRuns (run_output plan.now given) (names_of_run plan.now) (string_bytes plan.now.source) (subject_of (option_map string_bytes plan.now.subject))
-        (option_map string_bytes plan.now.keep) (option_map string_bytes plan.now.svg) result
+    ensures done { (all : Files) (given : Given) → O.holds files.old ≡ Some all → HoldTexts O.Reader.rest texts given
+        → PrintsOn all plan.now given result
         (seen R.rest W.told E.told E.failed (O.refusal files.old) streams.old) (seen R.rest W.told E.told E.failed (O.refusal files.new) streams.new) }
     ensures created { Creates (saved_names plan.now) result (O.created files.old) (O.created files.new) }
-    ensures saved { (given : Given) → HoldTexts O.Reader.rest texts given → Saves (run_output plan.now given) (run_draws plan.now given)
+    ensures saved { (given : Given) → HoldTexts O.Reader.rest texts given → Saves (run_output [] plan.now given) (run_draws plan.now given)
         (option_map string_bytes plan.now.keep) (option_map string_bytes plan.now.svg) result (O.saved files.old) (O.saved files.new) }
     ensures unread { (O.asked files.new ≡ O.asked files.old) × (streams.new.input ≡ streams.old.input) }
     ensures range { result ≤ 3 }
     ensures well { result ≢ 2 → (W.failed streams.new.out ≡ W.failed streams.old.out) × (O.refusal files.new ≡ O.refusal files.old) }
 {
+    if let Some(name) = taken(files, alloc, plan) {
+        return tell_taken(alloc, name, &mut streams.errors);
+    }
     let mut texts = texts;
     let ran = print_texts(alloc, plan, &mut texts, streams);
     let (printed, file) = parted(ran, plan.source.as_str());

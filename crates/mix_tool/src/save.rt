@@ -1,29 +1,32 @@
 //! A text is saved in a file: what the file held is lost only when the whole text is there.
 
-use mix_refused::Refused;
-use mix_run::{Reason, Unsaved};
+use mix_files::MAX_BUNDLE_BYTES;
+use mix_refused::{Memory, Refused};
+use mix_run::{Reason, Replaces, Unsaved, may_go};
+use mix_stream::{Counted, read_up_to};
 use std::alloc::Global;
 use std::fs::{self, File, OpenFile, OpenOptions};
 use std::io::{self, ErrorKind, Print, Write};
 use std::rt::Files;
 
-// How many names are tried for the file that is written first.
-const NAMES: u8 = 10;
-
-/// Saves a text in a file of this name. It is written to a new file in the same folder, which then takes the name; so a file that was there holds either
+/// Saves a text in a file of this name, unless that is a file which holds what may not be replaced. It is written to a new file in the same folder, which then takes the name; so a file that was there holds either
 /// what it held, or the whole text. Of a link the file is saved that it leads to. A device, and all that is under /dev and /proc, is written to as it is;
-/// on standard output the text comes after what was written.
+/// on standard output, which is `-` too, the text comes after what was written.
 pub(crate) fn save_file<F: Files + Print>(
     files: &F,
     alloc: Global,
     name: &str,
     text: &[u8],
+    over: Replaces,
 ) -> Result<(), Refused<Unsaved>> {
-    if name == "/dev/stdout" {
+    if is_output(name) {
         return write_on(io::writer(files), text);
     }
-    if name.starts_with("/dev/") || name.starts_with("/proc/") {
+    if is_device(name) {
         return write_over(files, name, text);
+    }
+    if !may_replace(files, alloc, name, over)? {
+        return Err(Refused::Fault(Unsaved::Taken));
     }
     match fs::symlink_metadata(files, name) {
         Ok(about) => {
@@ -35,7 +38,47 @@ pub(crate) fn save_file<F: Files + Print>(
                 write_over(files, name, text)
             }
         }
-        Err(_) => write_new(files, name, text),
+        Err(_) => write_new(files, alloc, name, text),
+    }
+}
+
+fn is_output(name: &str) -> bool {
+    name == "-" || name == "/dev/stdout"
+}
+
+fn is_device(name: &str) -> bool {
+    name.starts_with("/dev/") || name.starts_with("/proc/")
+}
+
+/// Whether what a name leads to may be replaced: no file, an empty one, a device, or a file that holds what may go.
+pub(crate) fn may_replace<F: Files>(
+    files: &F,
+    alloc: Global,
+    name: &str,
+    over: Replaces,
+) -> Result<bool, Refused<Unsaved>> {
+    if is_output(name) || is_device(name) {
+        return Ok(true);
+    }
+    match (fs::metadata(files, name), over) {
+        (Ok(about), Replaces::Nothing) if about.is_file() => Ok(about.len() == 0),
+        (Ok(about), Replaces::Bundle | Replaces::Deck | Replaces::Picture) if about.is_file() => {
+            let text = text_of(files, alloc, name)?;
+            Ok(may_go(alloc, over, &text)?)
+        }
+        _ => Ok(true),
+    }
+}
+
+// What a file holds, up to more than a bundle or a deck may have.
+fn text_of<F: Files>(files: &F, alloc: Global, name: &str) -> Result<Vec<u8>, Refused<Unsaved>> {
+    match fs::open(files, name) {
+        Ok(file) => match read_up_to(alloc, &mut Counted::of(file), MAX_BUNDLE_BYTES + 1) {
+            Ok(text) => Ok(text),
+            Err(Refused::Memory) => Err(Refused::Memory),
+            Err(Refused::Fault(_)) => Err(Refused::Fault(Unsaved::Taken)),
+        },
+        Err(error) => Err(not_opened(&error)),
     }
 }
 
@@ -86,12 +129,15 @@ fn write_over<F: Files>(files: &F, name: &str, text: &[u8]) -> Result<(), Refuse
     }
 }
 
-// A file that is not there yet; if it can't be written, it isn't there either.
-fn write_new<F: Files>(files: &F, name: &str, text: &[u8]) -> Result<(), Refused<Unsaved>> {
-    match File::create_new(files, name) {
-        Ok(file) => written(files, file, name, text),
-        Err(error) => Err(not_opened(&error)),
-    }
+// A file that is not there yet; until the whole text is written, it isn't there either.
+fn write_new<F: Files>(
+    files: &F,
+    alloc: Global,
+    name: &str,
+    text: &[u8],
+) -> Result<(), Refused<Unsaved>> {
+    let (file, new) = create_beside(files, alloc, name)?;
+    put(files, file, new.as_str(), name, text)
 }
 
 // All of a text is written to a new file; if that fails, the file is taken away.
@@ -128,22 +174,32 @@ fn replace<F: Files>(
         Ok(file) => file.metadata(),
         Err(error) => return Err(not_opened(&error)),
     };
-    let beside = create_beside(files, alloc, name)?;
-    let (file, new) = beside;
+    let (file, new) = create_beside(files, alloc, name)?;
     if let Ok(about) = about {
         let _ = file.set_permissions(about.permissions());
     }
-    written(files, file, new.as_str(), text)?;
-    match fs::rename(files, new.as_str(), name) {
+    put(files, file, new.as_str(), name, text)
+}
+
+// A text is written to a new file, which then takes a name.
+fn put<F: Files>(
+    files: &F,
+    file: F::File,
+    new: &str,
+    name: &str,
+    text: &[u8],
+) -> Result<(), Refused<Unsaved>> {
+    written(files, file, new, text)?;
+    match fs::rename(files, new, name) {
         Ok(()) => Ok(()),
         Err(error) => {
-            let _ = fs::remove_file(files, new.as_str());
+            let _ = fs::remove_file(files, new);
             Err(not_written(&error))
         }
     }
 }
 
-// A new file in the folder of a file, and its name.
+// A new file in the folder of a file, and its name: the first that no file has, also where many saves were broken off before.
 fn create_beside<F: Files>(
     files: &F,
     alloc: Global,
@@ -153,7 +209,7 @@ fn create_beside<F: Files>(
         Some(at) => &name[..at + 1],
         None => "",
     };
-    for n in 0..NAMES {
+    for n in 0..u32::MAX {
         let new = format!(in alloc; "{folder}.mixrev-{n}")?;
         match File::create_new(files, new.as_str()) {
             Ok(file) => return Ok((file, new)),

@@ -5,8 +5,8 @@ ghost use Rattle.mix_run.specs.Opening.{Asks};
 ghost use Rattle.mix_tool.specs.Shelf.{text_in};
 
 use mix_dap::{Fault, Library};
-use mix_refused::Refused;
-use mix_run::{Opener, Reason, Unread, Unsaved};
+use mix_refused::{Memory, Refused};
+use mix_run::{Opener, Reason, Replaces, Unread, Unsaved, may_go};
 use mix_stream::fake::Chunks;
 use std::alloc::{AllocError, Global};
 
@@ -27,6 +27,7 @@ pub struct Shelf<'a> {
     files: &'a [Shelved<'a>],
     asked: Option<Vec<String>>,
     created: Option<Vec<String>>,
+    refusal: Option<Refused<Unsaved>>,
 }
 
 impl<'a> Shelf<'a> {
@@ -37,6 +38,7 @@ impl<'a> Shelf<'a> {
             files,
             asked: Some(Vec::new(alloc)),
             created: Some(Vec::new(alloc)),
+            refusal: None,
         }
     }
 
@@ -73,7 +75,7 @@ impl<'a> Opener for Shelf<'a> {
     // What is saved is not kept.
     ghost saved = { λ _. None };
 
-    ghost refusal = { λ _. None };
+    ghost refusal = { λ s. s.refusal };
 
     fn open(&mut self, name: &str) -> Result<Chunks<'a>, Reason> {
         note(self.alloc, &mut self.asked, name);
@@ -95,9 +97,30 @@ impl<'a> Opener for Shelf<'a> {
         }
     }
 
-    fn save(&mut self, _alloc: Global, name: &[u8], _text: &[u8]) -> Result<(), Refused<Unsaved>> {
+    fn may_replace(&self, alloc: Global, name: &[u8], over: Replaces) -> Result<bool, Memory> {
+        match text_in(self.files, name) {
+            Some(text) => may_go(alloc, over, text),
+            None => Ok(true),
+        }
+    }
+
+    fn save(
+        &mut self,
+        alloc: Global,
+        name: &[u8],
+        _text: &[u8],
+        over: Replaces,
+    ) -> Result<(), Refused<Unsaved>> {
         note_bytes(self.alloc, &mut self.created, name);
-        Ok(())
+        let went = match self.may_replace(alloc, name, over) {
+            Ok(true) => Ok(()),
+            Ok(false) => Err(Refused::Fault(Unsaved::Taken)),
+            Err(Memory) => Err(Refused::Memory),
+        };
+        if let Err(why) = went {
+            self.refusal = Some(why);
+        }
+        went
     }
 }
 

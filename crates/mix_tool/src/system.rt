@@ -3,10 +3,10 @@
 ghost use Rattle.std.specs.Prelude.{◌≡◌, ℕ, List, None, Some, Err, IfErr, IfOk, IsOk, take};
 ghost use Rattle.std.specs.Fs.{IsDir, file_type};
 
-use crate::save::save_file;
+use crate::save::{may_replace, save_file};
 use mix_dap::{Fault, FileLibrary, Library};
-use mix_refused::Refused;
-use mix_run::{Opener, Reason, Unread, Unsaved};
+use mix_refused::{Memory, Refused};
+use mix_run::{Opener, Reason, Replaces, Unread, Unsaved};
 use mix_stream::{Counted, In, read_up_to};
 use std::alloc::Global;
 use std::fs::{self, Metadata, OpenFile};
@@ -14,9 +14,10 @@ use std::io::{self, Input, Print, Read};
 use std::rt::Files;
 
 /// The files of a system. What they hold is known only when they are read; of what is written to
-/// them is known why the last text that was not saved was not.
+/// them are known the names of those that were saved, and why the last text that was not saved was not.
 pub struct SystemFiles<'f, F: Files> {
     files: &'f F,
+    saved: Vec<String>,
     refusal: Option<Refused<Unsaved>>,
 }
 
@@ -24,20 +25,46 @@ impl<F: Files> Drop for SystemFiles<'_, F> {
     fn drop(self) {
         let SystemFiles {
             files: _,
+            saved: _,
             refusal: _,
         } = self;
     }
 }
 
 impl<'f, F: Files> SystemFiles<'f, F> {
-    /// The files that a runtime reaches.
-    pub fn of(files: &'f F) -> SystemFiles<'f, F>
+    /// The files that a runtime reaches, of which none was saved yet.
+    pub fn of(alloc: Global, files: &'f F) -> SystemFiles<'f, F>
         ensures { result.refusal ≡ None }
     {
         SystemFiles {
             files,
+            saved: Vec::new(alloc),
             refusal: None,
         }
+    }
+}
+
+impl<F: Files + Print> SystemFiles<'_, F> {
+    // Saves a text under a name. What was saved under it before may always be replaced where something may.
+    fn save_named(
+        &mut self,
+        alloc: Global,
+        name: &str,
+        text: &[u8],
+        over: Replaces,
+    ) -> Result<(), Refused<Unsaved>>
+        ensures { self.new.refusal ≡ self.old.refusal }
+    {
+        let is_own = self.saved.iter().any(|own| own.as_str() == name);
+        let over = match over {
+            Replaces::Nothing | Replaces::Bundle if is_own => Replaces::Anything,
+            _ => over,
+        };
+        let own = String::from_str(alloc, name)?;
+        self.saved.reserve(1)?;
+        save_file(self.files, alloc, name, text, over)?;
+        self.saved.push(own)?;
+        Ok(())
     }
 }
 
@@ -98,10 +125,27 @@ impl<F: Files + Input + Print> Opener for SystemFiles<'_, F> {
         }
     }
 
-    fn save(&mut self, alloc: Global, name: &[u8], text: &[u8]) -> Result<(), Refused<Unsaved>> {
+    fn may_replace(&self, alloc: Global, name: &[u8], over: Replaces) -> Result<bool, Memory> {
+        match str::from_utf8(name) {
+            Err(_) => Ok(true),
+            Ok(name) => match may_replace(self.files, alloc, name, over) {
+                Ok(may) => Ok(may),
+                Err(Refused::Memory) => Err(Memory),
+                Err(Refused::Fault(_)) => Ok(false),
+            },
+        }
+    }
+
+    fn save(
+        &mut self,
+        alloc: Global,
+        name: &[u8],
+        text: &[u8],
+        over: Replaces,
+    ) -> Result<(), Refused<Unsaved>> {
         let went = match str::from_utf8(name) {
             Err(_) => Err(Refused::Fault(Unsaved::NotOpened(Reason::Other))),
-            Ok(name) => save_file(self.files, alloc, name, text),
+            Ok(name) => self.save_named(alloc, name, text, over),
         };
         if let Err(why) = went {
             self.refusal = Some(why);

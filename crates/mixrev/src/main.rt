@@ -10,7 +10,7 @@ use mix_tool::{
     run_plan,
 };
 use std::cell::Cell;
-use std::io::IsTerminal;
+use std::io::{ErrorKind, IsTerminal, Write};
 use std::process::ExitCode;
 use std::{env, fmt, io};
 
@@ -45,7 +45,7 @@ fn run(rt: &HostRuntime, words: &[String]) -> ExitCode {
     }
     match read_words(rt.alloc(), &texts, at_terminal(rt)) {
         Ok(plan) => {
-            let mut files = SystemFiles::of(rt);
+            let mut files = SystemFiles::of(rt.alloc(), rt);
             let is_closed = Cell::new(false);
             let mut client = Counted::of(rt.stdin());
             let mut streams = Streams {
@@ -83,25 +83,32 @@ fn talker(rt: &HostRuntime) -> Talker {
     }
 }
 
-// Help and the version go to standard output, a mistake to standard error; where the write fails, the status alone says so.
+// Help and the version go to standard output, a mistake to standard error as a terminal may read it; where that fails, the status alone says so.
 fn tell(rt: &HostRuntime, fault: &LineFault) -> ExitCode {
-    match fault {
-        LineFault::Line(error) => {
-            let _ = error.print(rt);
-            ExitCode::from(line_status(fault))
-        }
-        LineFault::Vain(vain) => {
-            let vain = *vain;
-            let _ = eprintln!(rt; "error: {vain}\n\n{}", USAGE);
-            ExitCode::from(line_status(fault))
-        }
-        LineFault::Memory => report(rt, ToolFault::Memory),
+    let text = match fault {
+        LineFault::Line(error) => format!(in rt.alloc(); "{error}"),
+        LineFault::Vain(vain) => format!(in rt.alloc(); "error: {vain}\n\n{}\n", USAGE),
+        LineFault::Memory => return report(rt, ToolFault::Memory),
+    };
+    let text = match text {
+        Ok(text) => text,
+        Err(_) => return report(rt, ToolFault::Memory),
+    };
+    let status = line_status(fault);
+    if status == FAILED {
+        let _ = Shown::of(rt.stderr(), true).write_all(text.as_bytes());
+        return ExitCode::from(FAILED);
+    }
+    match io::writer(rt).write_all(text.as_bytes()) {
+        Ok(()) => ExitCode::from(status),
+        Err(error) if error.kind() == ErrorKind::BrokenPipe => ExitCode::from(FAILED),
+        Err(_) => report(rt, ToolFault::Write),
     }
 }
 
 // The words could not be read: out of memory, or one of them is no text.
 fn unread(rt: &HostRuntime, error: io::Error) -> ExitCode {
-    if error.kind() == io::ErrorKind::OutOfMemory {
+    if error.kind() == ErrorKind::OutOfMemory {
         report(rt, ToolFault::Memory)
     } else {
         report(rt, error)

@@ -1,5 +1,5 @@
 //! A program run in a session, and the table at its end: that of how often each instruction was executed, and how long that took, or that of the formulas.
-ghost use Rattle.std.specs.Prelude.{◌≡◌, ◌<◌, ◌++◌, ◌-◌, ◌^◌, ◌==◌, ◌&&◌, [], IfOk, OnOk, min, true};
+ghost use Rattle.std.specs.Prelude.{◌≡◌, ◌<◌, ◌++◌, ◌-◌, ◌^◌, ◌==◌, ◌&&◌, ℕ, List, [], IfOk, OnOk, min, true};
 ghost use Rattle.mix_session.specs.Command.{after};
 ghost use Rattle.mix_session.specs.Session.{opened};
 ghost use Rattle.mix_session.specs.Tally.{tally_in};
@@ -41,8 +41,8 @@ pub(super) fn count_loaded<W: Out>(
     out: &mut W,
 ) -> Result<Printed, ToolFault>
     requires { W.failed out.old < 2 ^ 64 - 1 }
-    ensures { Leaves (counted_outcome table.now options program units)
-        (DrawnIf options.map program (after (counted_steps options.steps (opened program units).timeline))) result
+    ensures { (latex : List ℕ) × Leaves (counted_outcome latex table.now options program units)
+        (DrawnIf options.map) result
         (W.told out.old) (W.failed out.old) (W.told out.new) (W.failed out.new) }
 {
     let mut session = Session::open(alloc, program, units)?;
@@ -59,9 +59,10 @@ fn counted(
     table: &EndTable<'_>,
     options: PrintOptions,
 ) -> Result<(Vec<u8>, Printed), Memory>
-    ensures { let run = counted_run table.now options.steps session.old in let program = session.old.program in
-        IfOk result (λ r. (r.0.items ≡ run.bytes) × (r.1.answer ≡ Ran (ran_to program run)) × (r.1.deck.items ≡ kept_if options.keep run.world)
-        × DrawnIf options.map program (after (counted_steps options.steps session.old.timeline)) r.1.map.items) }
+    ensures { let program = session.old.program in
+        IfOk result (λ r. let run = counted_run r.0.items table.now options.steps session.old in
+        (r.0.items ≡ run.bytes) × (r.1.answer ≡ Ran (ran_to program run)) × (r.1.deck.items ≡ kept_if options.keep run.world)
+        × DrawnIf options.map r.1.map.items) }
 {
     let end = run_steps(session, options.steps)?;
     let text = table.text(alloc, session)?;

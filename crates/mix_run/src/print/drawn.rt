@@ -1,15 +1,13 @@
 //! A run beside a session: its map is drawn of the session's steps, and a part of which a table is to be is named there.
-ghost use Rattle.std.specs.Prelude.{◌≡◌, ◌<◌, ◌-◌, ◌^◌, IfOk};
-ghost use Rattle.mix_session.specs.Command.{after};
+ghost use Rattle.std.specs.Prelude.{◌≡◌, ◌<◌, ◌-◌, ◌^◌, IfOk, true};
 ghost use Rattle.mix_session.specs.Change.{world_at};
-ghost use Rattle.mix_run.specs.Counted.{counted_steps};
 ghost use Rattle.mix_run.specs.Drawn.{DrawnIf, DrawnSteps};
-ghost use Rattle.mix_run.specs.Map.{IsMap};
+ghost use Rattle.mix_run.specs.Opening.{is_picture};
 ghost use Rattle.mix_run.specs.PrintOutput.{Leaves, answered, printed_outcome};
 ghost use Rattle.mix_run.specs.StepTable.{run_told};
 
 use crate::fault::ToolFault;
-use crate::map::{MAX_ROWS, add_map, span_of};
+use crate::map::{MAX_ROWS, picture_of};
 use crate::print::counts::run_steps;
 use crate::print::loaded::{left, tell_steps};
 use crate::print::options::PrintOptions;
@@ -17,9 +15,9 @@ use crate::print::part::{cell_named, step_table};
 use crate::print::tabled::StepTable;
 use crate::print::{PrintAnswer, Printed};
 use mix_machine::Units;
-use mix_map::map_of;
+use mix_map::{columns_of, map_of};
 use mix_refused::Memory;
-use mix_session::Session;
+use mix_session::{Session, Span};
 use mix_stream::Out;
 use mixal_asm::Program;
 use std::alloc::Global;
@@ -61,7 +59,7 @@ fn tell_session<W: Out>(
     requires { W.failed out.old < 2 ^ 64 - 1 }
     ensures { let program = session.old.program in
         Leaves (answered options program (run_told table.now options program (world_at session.old.timeline 0)))
-        (DrawnIf options.map program (after (counted_steps options.steps session.old.timeline))) result
+        (DrawnIf options.map) result
         (W.told out.old) (W.failed out.old) (W.told out.new) (W.failed out.new) }
 {
     let mut world = session.world_at(alloc, 0)?;
@@ -78,7 +76,7 @@ fn draw_steps(
     options: PrintOptions,
 ) -> Result<Vec<u8>, Memory>
     ensures program { session.new.program ≡ session.old.program }
-    ensures map { IfOk result (λ map. DrawnIf options.map session.old.program (after (counted_steps options.steps session.old.timeline)) map.items) }
+    ensures map { IfOk result (λ map. DrawnIf options.map map.items) }
 {
     if options.map {
         run_steps(session, options.steps)?;
@@ -90,7 +88,7 @@ fn draw_steps(
 
 /// The map of the changes of a session, if it is asked for.
 pub(super) fn draw_if(alloc: Global, session: &Session, map: bool) -> Result<Vec<u8>, Memory>
-    ensures { IfOk result (λ text. DrawnIf map session.now.program session.now.timeline text.items) }
+    ensures { IfOk result (λ text. DrawnIf map text.items) }
 {
     if map {
         draw(alloc, session)
@@ -100,13 +98,16 @@ pub(super) fn draw_if(alloc: Global, session: &Session, map: bool) -> Result<Vec
 }
 
 fn draw(alloc: Global, session: &Session) -> Result<Vec<u8>, Memory>
-    ensures { IfOk result (λ text. IsMap session.now.program session.now.timeline text.items) }
+    ensures { IfOk result (λ text. is_picture text.items ≡ true) }
 {
     let total = session.changes().len();
-    let span = span_of(total);
+    let columns = columns_of(total);
+    let span = Span {
+        from: 0,
+        until: total,
+        columns,
+    };
     let counts = session.path(alloc, span)?;
-    let map = map_of(alloc, &counts, span.columns, MAX_ROWS)?;
-    let mut text = Vec::new(alloc);
-    add_map(session.program(), total, &map, &mut text)?;
-    Ok(text)
+    let map = map_of(alloc, &counts, columns, MAX_ROWS)?;
+    picture_of(alloc, session.program(), total, &map)
 }

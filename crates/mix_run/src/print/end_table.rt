@@ -8,6 +8,7 @@ use crate::print::formulas::formulas_table;
 use crate::print::given::given_by;
 use crate::print::options::{AskedTable, TableOf};
 use crate::table::TableFormat;
+use crate::typeset::typeset;
 use mix_formula::Named;
 use mix_refused::Memory;
 use mix_session::{Refusal, Session};
@@ -35,13 +36,23 @@ impl<'a> Model for EndTable<'a> {
 impl EndTable<'_> {
     /// The table of a session, by the changes done.
     pub(super) fn text(&self, alloc: Global, session: &Session) -> Result<Vec<u8>, Memory>
-        ensures { IfOk result (λ text. text.items ≡ end_text self.now session.now.program session.now.timeline) }
+        ensures { IfOk result (λ text. text.items ≡ end_text text.items self.now session.now.program session.now.timeline) }
     {
         match &self.given {
-            None => counts_table(alloc, session, self.format),
+            None => match self.format {
+                TableFormat::Latex => counted_lines(alloc, session),
+                TableFormat::Csv => counts_table(alloc, session, TableFormat::Csv),
+                TableFormat::Json => counts_table(alloc, session, TableFormat::Json),
+            },
             Some(given) => formulas_table(alloc, session, self.format, given),
         }
     }
+}
+
+// The lines of a program with the counts of a session, in LaTeX.
+fn counted_lines(alloc: Global, session: &Session) -> Result<Vec<u8>, Memory> {
+    let tallies = session.counts(alloc)?;
+    typeset(alloc, session.program(), Some(tallies.cells.as_slice()))
 }
 
 /// The table at the end of a run that is asked for, if one is; why it is none.

@@ -70,13 +70,18 @@ impl<'a> Field<'a> {
         }
     }
 
-    /// What CSV has of it, but for quotes.
+    /// What CSV has of it, but for quotes: a spreadsheet takes each text for a text.
     pub(super) fn plain(&self, alloc: Global) -> Result<String, AllocError>
         ensures { IfOk result (λ text. string_bytes text ≡ plain_text self.now) }
     {
         match self.kind {
             Kind::Number(sign, magnitude) => digits(alloc, sign, magnitude),
-            Kind::Text(text) => Ok(format!(in alloc; "{text}")?),
+            Kind::Text(text) => match text.as_bytes() {
+                [b'=' | b'+' | b'-' | b'@' | b'\t' | b'\r', ..] => Ok(format!(in alloc;
+                    "'{text}"
+                )?),
+                _ => String::from_str(alloc, text),
+            },
             Kind::Missing => Ok(String::new(alloc)),
         }
     }

@@ -1,6 +1,6 @@
 //! A row of LaTeX.
 ghost use Rattle.std.specs.Prelude.{◌≡◌, ◌++◌, IfOk, OnOk, flat_map, string_bytes};
-ghost use Rattle.mix_run.specs.Table.{is_latex_sign, latex_byte, latex_columns, latex_field, latex_header, latex_number, latex_row};
+ghost use Rattle.mix_run.specs.Table.{latex_byte, latex_columns, latex_field, latex_header, latex_number, latex_row};
 
 use crate::table::Field;
 use crate::table::field::Kind;
@@ -84,15 +84,13 @@ fn add_text(text: &mut Vec<u8>, characters: &[u8]) -> Result<(), Memory>
     Ok(())
 }
 
-fn add_byte(text: &mut Vec<u8>, byte: u8) -> Result<(), Memory>
+/// Appends a byte of a text, by its name if it has a meaning in TeX.
+pub(crate) fn add_byte(text: &mut Vec<u8>, byte: u8) -> Result<(), Memory>
     ensures { OnOk result (text.new.items ≡ text.old.items ++ latex_byte byte) }
 {
-    if is_latex_sign(byte) {
-        text.extend_from_slice(&[b'\\', byte])?;
-        return Ok(());
-    }
     match byte {
-        b'"' => text.extend_from_slice(b"\\textquotedbl{}")?,
+        b'#' | b'$' | b'%' | b'&' | b'_' | b'{' | b'}' => text.extend_from_slice(&[b'\\', byte])?,
+        b'"' => text.extend_from_slice(b"\\char34{}")?,
         b'<' => text.extend_from_slice(b"\\textless{}")?,
         b'>' => text.extend_from_slice(b"\\textgreater{}")?,
         b'\\' => text.extend_from_slice(b"\\textbackslash{}")?,
@@ -102,10 +100,4 @@ fn add_byte(text: &mut Vec<u8>, byte: u8) -> Result<(), Memory>
         _ => text.push(byte)?,
     }
     Ok(())
-}
-
-fn is_latex_sign(byte: u8) -> bool
-    ensures { result ≡ is_latex_sign byte }
-{
-    matches!(byte, b'#' | b'$' | b'%' | b'&' | b'_' | b'{' | b'}')
 }

@@ -26,15 +26,9 @@ pub(super) fn add_object(
     write_members(alloc, &mut writer, names, fields)?;
     writer.end_object()?;
     let object = writer.into_inner();
-    text.extend_from_slice(before_object(first))?;
+    text.extend_from_slice(if first { b"\n" } else { b",\n" })?;
     text.extend_from_slice(object.as_slice())?;
     Ok(())
-}
-
-fn before_object(first: bool) -> &'static [u8]
-    ensures { result.now ≡ before_object first }
-{
-    if first { b"\n" } else { b",\n" }
 }
 
 // Writes each field with the name of its column.

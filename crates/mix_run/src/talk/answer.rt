@@ -4,17 +4,14 @@ ghost use Rattle.std.specs.Prelude.{◌≡◌, ◌<◌, ◌-◌, ◌^◌, ◌∷
 ghost use Rattle.std.specs.Io.KnownBytes.{Appends};
 ghost use Rattle.mix_run.specs.Asked.{after_lines, is_quit};
 ghost use Rattle.mix_run.specs.Fault.{IsMemoryOrWrite};
-ghost use Rattle.mix_run.specs.Opening.{noted};
 ghost use Rattle.mix_run.specs.Output.{replies};
 ghost use Rattle.mix_person.specs.declared.person.Line.TheVariants as kinds;
 ghost use Rattle.mix_run.specs.Points.{with_points};
 ghost use Rattle.mix_run.specs.Recall.{meant, meant_by, recalled, recalled_by, recalled_line};
-ghost use Rattle.mix_run.specs.Saves.{saves_of};
 ghost use Rattle.mix_stream.specs.Stream.{AppendsFront, CountsFailure};
 
 use crate::commands::command;
 use crate::fault::ToolFault;
-use crate::opener::Opener;
 use crate::talk::aside::{Talker, after_reply, help, say_bytes, tell};
 use crate::talk::asked::{Point, point_in};
 use crate::talk::done::done;
@@ -22,7 +19,6 @@ use crate::talk::heard::Heard;
 use crate::talk::listing::list;
 use crate::talk::moment::Moment;
 use crate::talk::recall::Recall;
-use crate::talk::save::save;
 use crate::talk::source::refuse_in_file;
 use crate::talk::stopped::{tell_more, tell_run, tell_too_many};
 use mix_person::{Line, kind_of, only_said};
@@ -97,13 +93,12 @@ fn answer_command<W: Out, E: Out>(
     Ok(told)
 }
 
-/// One line: the command that it stands for is executed; a person is given help, and what was done
-/// is saved. A line that sources a file or reloads is one of such a file: it is refused.
-pub(crate) fn answer_line<O: Opener, W: Out, E: Out>(
+/// One line: the command that it stands for is executed; a person is given help. A line that saves,
+/// sources a file or reloads is one of a file that is sourced: it is refused.
+pub(crate) fn answer_line<W: Out, E: Out>(
     moment: &mut Moment,
     talker: Talker,
     line: &[u8],
-    files: &mut O,
     out: &mut W,
     errors: &mut E,
 ) -> Result<Heard, ToolFault>
@@ -114,14 +109,10 @@ pub(crate) fn answer_line<O: Opener, W: Out, E: Out>(
     ensures session { OnOk result (moment.new.session ≡ after_lines moment.old.session (meant moment.old.session talker moment.old.recall line.now)) }
     ensures recall { OnOk result (moment.new.recall ≡ recalled moment.old.session talker moment.old.recall line.now) }
     ensures origin { moment.new.origin ≡ moment.old.origin }
-    ensures saved { OnOk result (O.saved files.new ≡ noted (O.saved files.old) (saves_of moment.old.origin talker moment.old.recall line.now)) }
-    ensures unasked { O.asked files.new ≡ O.asked files.old }
-    ensures held { O.holds files.new ≡ O.holds files.old }
     ensures begun { AppendsFront (W.told out.old) (W.told out.new) (replies moment.old.session (meant moment.old.session talker moment.old.recall line.now)).bytes }
     ensures write { CountsFailure (result ≡ Err ToolFault.Write) (W.failed out.old) (W.failed out.new) }
     ensures only { IfErr result IsMemoryOrWrite }
     ensures quiet { talker ≡ Talker.Program → errors.new ≡ errors.old }
-    ensures untouched { talker ≡ Talker.Program → files.new ≡ files.old }
 {
     match talker {
         Talker::Program => {
@@ -155,10 +146,7 @@ pub(crate) fn answer_line<O: Opener, W: Out, E: Out>(
         Line::Delete => recall.delete(),
         Line::Display => recall.display(session, &typed, errors)?,
         Line::Undisplay => recall.undisplay(),
-        Line::Save => {
-            let (alloc, origin) = (recall.allocator(), &moment.origin);
-            save(alloc, origin, recall.done(), line, files, errors)?;
-        }
+        Line::Save | Line::SaveOver => refuse_in_file("save", errors),
         Line::Source => refuse_in_file("source", errors),
         Line::Reload => refuse_in_file("reload", errors),
     }

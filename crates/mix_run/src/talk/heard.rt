@@ -6,8 +6,7 @@ ghost use Rattle.mix_lines.specs.Lines.{lines};
 ghost use Rattle.mix_run.specs.Asked.{after_lines, answers, asked, is_over, recalled_all};
 ghost use Rattle.mix_run.specs.Fault.{IsMemoryOrWrite};
 ghost use Rattle.mix_run.specs.Hearing.{Answered};
-ghost use Rattle.mix_run.specs.Opening.{Files, noted};
-ghost use Rattle.mix_run.specs.Saves.{saves};
+ghost use Rattle.mix_run.specs.Opening.{Files};
 ghost use Rattle.mix_run.specs.Sources.{Knows};
 ghost use Rattle.mix_run.specs.Stretch.{talk_of, typed_line};
 ghost use Rattle.mix_stream.specs.Stream.{AppendsFront, CountsFailure};
@@ -18,6 +17,7 @@ use crate::talk::answer::answer_line;
 use crate::talk::aside::{Talker, prompt};
 use crate::talk::moment::Moment;
 use crate::talk::reload::{is_reload, reload};
+use crate::talk::save::{is_save, save};
 use crate::talk::source::text_sourced;
 use mix_lines::split_line;
 use mix_session::Told;
@@ -31,11 +31,10 @@ pub(super) struct Heard {
 }
 
 // The lines of a file that is sourced, one after the other, up to the one that ends the talk.
-fn answer_lines<O: Opener, W: Out, E: Out>(
+fn answer_lines<W: Out, E: Out>(
     moment: &mut Moment,
     talker: Talker,
     text: &[u8],
-    files: &mut O,
     out: &mut W,
     errors: &mut E,
 ) -> Result<Heard, ToolFault>
@@ -46,20 +45,16 @@ fn answer_lines<O: Opener, W: Out, E: Out>(
     ensures session { IfOk result (λ _. moment.new.session ≡ after_lines moment.old.session (asked moment.old.session talker moment.old.recall (lines text.now))) }
     ensures recall { IfOk result (λ _. moment.new.recall ≡ recalled_all moment.old.session talker moment.old.recall (lines text.now)) }
     ensures origin { moment.new.origin ≡ moment.old.origin }
-    ensures saved { OnOk result (O.saved files.new ≡ noted (O.saved files.old) (saves moment.old.origin moment.old.session talker moment.old.recall (lines text.now))) }
-    ensures unasked { O.asked files.new ≡ O.asked files.old }
-    ensures held { O.holds files.new ≡ O.holds files.old }
     ensures begun { AppendsFront (W.told out.old) (W.told out.new) (answers moment.old.session talker moment.old.recall (lines text.now)).bytes }
     ensures write { CountsFailure (result ≡ Err ToolFault.Write) (W.failed out.old) (W.failed out.new) }
     ensures only { IfErr result IsMemoryOrWrite }
     ensures quiet { talker ≡ Talker.Program → errors.new ≡ errors.old }
-    ensures untouched { talker ≡ Talker.Program → files.new ≡ files.old }
 {
     let mut told = Told::Accepted;
     let mut rest = text;
     while !rest.is_empty() {
         let (line, after) = split_line(rest);
-        let now = answer_line(moment, talker, line, files, out, errors)?;
+        let now = answer_line(moment, talker, line, out, errors)?;
         if now.is_over {
             return Ok(Heard {
                 told,
@@ -75,7 +70,7 @@ fn answer_lines<O: Opener, W: Out, E: Out>(
     })
 }
 
-// A typed line: the source is reloaded, or the lines that it stands for are answered.
+// A typed line: the source is reloaded, what was done is saved, or the lines that it stands for are answered.
 fn answer_typed<O: Opener, W: Out, E: Out>(
     moment: &mut Moment,
     talker: Talker,
@@ -97,16 +92,21 @@ fn answer_typed<O: Opener, W: Out, E: Out>(
     ensures quiet { talker ≡ Talker.Program → errors.new ≡ errors.old }
     ensures untouched { talker ≡ Talker.Program → files.new ≡ files.old }
 {
+    let heard = Heard {
+        told: Told::Accepted,
+        is_over: false,
+    };
     if is_reload(talker, line) {
         reload(moment, files, errors)?;
-        return Ok(Heard {
-            told: Told::Accepted,
-            is_over: false,
-        });
+        return Ok(heard);
+    }
+    if is_save(talker, line) {
+        save(moment, line, files, errors)?;
+        return Ok(heard);
     }
     match text_sourced(moment.recall.allocator(), talker, line, files, errors)? {
-        Some(text) => answer_lines(moment, talker, &text, files, out, errors),
-        None => answer_line(moment, talker, line, files, out, errors),
+        Some(text) => answer_lines(moment, talker, &text, out, errors),
+        None => answer_line(moment, talker, line, out, errors),
     }
 }
 

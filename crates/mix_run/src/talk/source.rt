@@ -19,7 +19,7 @@ const NOT_READ: &str = "T2 read failed: ";
 
 const IN_FILE: &str = " can't be used in a file that is sourced; type it yourself\n";
 
-/// A file that is sourced sources no other, nor does it reload: a person is told so.
+/// A file that is sourced sources no other, nor does it save or reload: a person is told so.
 pub(crate) fn refuse_in_file<E: Out>(word: &str, errors: &mut E) {
     say(word, errors);
     say(IN_FILE, errors);

@@ -22,6 +22,11 @@ returns-in-List-clause-done g c all given e holds =
       c.status-in-List.ensures.told,
     )
 
+pub returns-in-Typeset-clause-done : goal.returns-in-Typeset-clause-done
+returns-in-Typeset-clause-done g c all given e holds =
+    rw c.in-Typeset.is
+    (c.run_typeset-outcome.result, _, c.status-in-Typeset.ensures.status, inl c.deref-in-Typeset.ensures, c.status-in-Typeset.ensures.told)
+
 pub returns-in-Debug-clause-opened : goal.returns-in-Debug-clause-opened
 returns-in-Debug-clause-opened g c all e = rw (c.in-Debug.is, c.debug_on.ensures.unasked) (asks-nothing _)
 
@@ -32,7 +37,7 @@ pub returns-in-Run-clause-opened : goal.returns-in-Run-clause-opened
 returns-in-Run-clause-opened g c all e = rw (c.in-Run.is, c.run_texts.ensures.unread.0) (asks-nothing _)
 
 pub returns-in-Run-clause-done : goal.returns-in-Run-clause-done
-returns-in-Run-clause-done g c all given e holds = rw c.in-Run.is (c.run_texts.ensures.done given holds)
+returns-in-Run-clause-done g c all given e holds = rw c.in-Run.is (c.run_texts.ensures.done all given e holds)
 
 pub returns-in-Run-clause-created : goal.returns-in-Run-clause-created
 returns-in-Run-clause-created g c names e =

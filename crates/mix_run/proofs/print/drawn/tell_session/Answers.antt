@@ -2,8 +2,6 @@
 use Rattle.std.proofs.Common.{◌∙◌, refl}
 use Rattle.std.proofs.lemmas.Result.{err_from_is_err_and}
 use Rattle.mix_session.specs.Change.{world_at}
-use Rattle.mix_session.specs.Command.{after}
-use Rattle.mix_run.specs.Counted.{counted_steps}
 use Rattle.mix_run.specs.Drawn.{DrawnIf}
 use Rattle.mix_run.specs.StepTable.{run_told}
 use Rattle.mix_run.proofs.DrawnLemmas.{broken-as, leaves-made, told-as}
@@ -43,7 +41,7 @@ returns g c =
     let s = c.args.session.now in
     let told = told-as c.args.table.now c.args.options c.program.result.now s.program c.in_ok-world.world (world_at s.timeline 0) c.tell_steps.new.world
     c.in_ok-stepped.stepped _ _ _ _ c.program.ensures c.in_ok-world.ensures c.in_ok-stepped.ensures in
-    let drawn = DrawnIf c.args.options.map s.program (after (counted_steps c.args.options.steps s.timeline)) in
+    let drawn = DrawnIf c.args.options.map in
     leaves-made c.args.options s.program c.program-2.result.now (run_told c.args.table.now c.args.options s.program (world_at s.timeline 0))
     c.in_ok-stepped.stepped c.tell_steps.new.world c.in_ok-printed.printed drawn _ _ _ _ (c.program-2.ensures ∙ c.in_ok-map.ensures.program) told
     c.in_ok-printed.ensures.answer c.in_ok-printed.ensures.deck (rw c.in_ok-printed.ensures.map c.in_ok-map.ensures.map)

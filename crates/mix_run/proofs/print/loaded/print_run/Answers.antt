@@ -1,5 +1,5 @@
 -- The registers stand behind what the steps print.
-use Rattle.std.proofs.Common.{◌∙◌, ◌++◌, ◌+◌, [], ap, refl, sym}
+use Rattle.std.proofs.Common.{◌∙◌, ◌++◌, [], ap, refl, sym}
 use Rattle.std.proofs.lemmas.List.{append-nil}
 use Rattle.std.proofs.lemmas.Result.{err_from_is_err_and}
 use Rattle.mix_run.specs.Print.{registers_if, steps_of}

@@ -1,7 +1,7 @@
 -- One line more: what has been written and what is left to write are the replies to all.
 use Rattle.std.proofs.Common.{sym, ◌∙◌}
 use Rattle.mix_run.proofs.RunLemmas.{nil-from_length}
-use Rattle.mix_run.proofs.TalkLemmas.{after-one, all-answered, all-done, all-recalled, all-reported, begun-one, never-over, over-one, recall-one, all-saved, saved-end, saved-one, told-one, written-one}
+use Rattle.mix_run.proofs.TalkLemmas.{after-one, all-answered, all-done, all-recalled, all-reported, begun-one, never-over, over-one, recall-one, told-one, written-one}
 use Rattle.mix_run.proofs.Written.{AppendsFront-all}
 use Rattle.mix_run.proofs.talk.heard.answer_lines.Goals as goal
 
@@ -33,10 +33,6 @@ loop-rest-preserved g c =
       origin = answer.origin ∙ c.loop-rest.invariant.origin;
       failed = answer.write.1 (λ e. cc) ∙ c.loop-rest.invariant.failed;
       quiet = λ e. answer.quiet e ∙ c.loop-rest.invariant.quiet e;
-      saved = saved-one s talker r _ _ _ split _ _ goes_on answer.session answer.recall c.args.moment.now.origin _ _ _ c.loop-rest.invariant.saved (rw c.loop-rest.invariant.origin at answer.saved);
-      unasked = answer.unasked ∙ c.loop-rest.invariant.unasked;
-      held = answer.held ∙ c.loop-rest.invariant.held;
-      untouched = λ e. answer.untouched e ∙ c.loop-rest.invariant.untouched e;
     }
 
 pub returns-clause-replies : goal.returns-clause-replies
@@ -65,14 +61,3 @@ pub returns-clause-begun : goal.returns-clause-begun
 returns-clause-begun g c =
     let none = nil-from_length _ (sym c.loop-rest-test.false ∙ c.is_empty.ensures) in
     AppendsFront-all _ _ _ (all-answered c.loop-rest.moment.session c.args.talker c.loop-rest.moment.recall _ none _ _ _ c.loop-rest.invariant.written)
-
-pub returns-then-now-clause-saved : goal.returns-then-now-clause-saved
-returns-then-now-clause-saved g c =
-    let answer = c.in_ok-now.ensures in
-    let quit = sym answer.over ∙ c.if-now.true in
-    saved-end c.loop-rest.moment.session c.args.talker c.loop-rest.moment.recall _ _ _ c.split_line.ensures.lines c.args.moment.now.origin _ _ _ quit c.loop-rest.invariant.saved (rw c.loop-rest.invariant.origin at answer.saved)
-
-pub returns-clause-saved : goal.returns-clause-saved
-returns-clause-saved g c =
-    let none = nil-from_length _ (sym c.loop-rest-test.false ∙ c.is_empty.ensures) in
-    all-saved c.loop-rest.moment.session c.args.talker c.loop-rest.moment.recall _ none c.args.moment.now.origin _ _ c.loop-rest.invariant.saved

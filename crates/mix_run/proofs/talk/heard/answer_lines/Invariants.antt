@@ -3,8 +3,6 @@ use Rattle.std.specs.Io.KnownBytes.{Appends}
 use Rattle.mix_lines.specs.Lines.{lines}
 use Rattle.mix_session.specs.Reply.{told_of_both}
 use Rattle.mix_run.specs.Asked.{after_lines, answers, asked, is_over, recalled_all}
-use Rattle.mix_run.specs.Opening.{noted}
-use Rattle.mix_run.specs.Saves.{saves}
 use Rattle.mix_run.specs.declared.talk.aside.Talker.TheVariants.{Program}
 use Rattle.mix_run.proofs.talk.heard.answer_lines.Given as goal
 
@@ -22,11 +20,6 @@ invariant-loop-rest g l =
       origin : l.moment.origin ≡ l.fn.moment.origin;
       failed : g.W.Out.failed l.out ≡ g.W.Out.failed l.fn.out;
       quiet : l.talker ≡ Program → l.errors ≡ l.fn.errors;
-      saved : noted (g.O.Opener.saved l.files) (saves l.fn.moment.origin l.moment.session l.talker l.moment.recall (lines l.rest))
-          ≡ noted (g.O.Opener.saved l.fn.files) (saves l.fn.moment.origin l.fn.moment.session l.talker l.fn.moment.recall (lines l.text));
-      unasked : g.O.Opener.asked l.files ≡ g.O.Opener.asked l.fn.files;
-      held : g.O.Opener.holds l.files ≡ g.O.Opener.holds l.fn.files;
-      untouched : l.talker ≡ Program → l.files ≡ l.fn.files;
     }
 
 abbrev pub decreases-loop-rest : goal.decreases-loop-rest

@@ -1,5 +1,0 @@
-mod Filled
-mod Lines
-mod Numbers
-mod Required
-mod Table
