@@ -1,4 +1,4 @@
-"""Which function of a crate's source a text stands in, and by which names the prover tells of it."""
+"""Which function of a crate's source a text stands in, and its names as the prover prints them."""
 
 import collections
 import re
@@ -12,7 +12,6 @@ Function = collections.namedtuple("Function", "file first last name word end of_
 SEEN_THROUGH = {"Debug", "Display", "Drop", "From", "Hash", "Iterator", "PartialEq", "PartialOrd"}
 WORDS = r"(?:pub(?:\([a-z ]+\))? )?(?:const )?(?:unsafe )?(?:extern \"C\" )?"
 FUNCTION = re.compile(rf"( *){WORDS}fn (\w+)")
-PARTS = re.compile(r"\b(?:if|match|matches|while|for|loop|return|break|continue)\b|\?|&&|\|\||=>")
 BLOCK = re.compile(rf"{WORDS}(impl|trait)\b(.*)")
 
 
@@ -29,7 +28,8 @@ def without_brackets(text):
 
 
 def owner_of(kind, header):
-    """What matches the part of a name that the block with this header gives the functions in it, and the trait that they are of, or ''."""
+    """What matches the part of a name that the block with this header gives the functions in it,
+    and the trait that they are of, or ''."""
     header = without_brackets(header).split("{")[0].split(" where ")[0]
     if kind == "trait":
         return (re.findall(r"\w+", header)[0],) * 2
@@ -46,7 +46,11 @@ def end_of(lines, first, indent):
         line = lines[at]
         if line == f"{indent}}}":
             return at
-        if line.strip() and not line.startswith(f"{indent} ") and not line.startswith((f"{indent})", f"{indent}{{", f"{indent}where")):
+        if (
+            line.strip()
+            and not line.startswith(f"{indent} ")
+            and not line.startswith((f"{indent})", f"{indent}{{", f"{indent}where"))
+        ):
             return at - 1
     return len(lines) - 1
 
@@ -54,12 +58,20 @@ def end_of(lines, first, indent):
 def functions_of(crate, file, text):
     """The functions of a file of a crate."""
     lines, found, owner, of_trait, block_ends = text.split("\n"), [], "", "", -1
-    modules = [word for word in file.removeprefix("src/").removesuffix(".rt").split("/") if word not in ("lib", "main")]
+    modules = [
+        word
+        for word in file.removeprefix("src/").removesuffix(".rt").split("/")
+        if word not in ("lib", "main")
+    ]
     for at, line in enumerate(lines):
         block = BLOCK.match(line)
         if block:
-            header = " ".join(lines[at : next(k for k in range(at, len(lines)) if "{" in lines[k]) + 1])
-            (owner, of_trait), block_ends = owner_of(*BLOCK.match(header).groups()), end_of(lines, at, "")
+            header = " ".join(
+                lines[at : next(k for k in range(at, len(lines)) if "{" in lines[k]) + 1]
+            )
+            (owner, of_trait), block_ends = owner_of(*BLOCK.match(header).groups()), end_of(
+                lines, at, ""
+            )
         function = FUNCTION.match(line)
         if function:
             is_inside = at <= block_ends
@@ -68,20 +80,28 @@ def functions_of(crate, file, text):
             before = r"(?:\w+::)*" + inside if inside else "::".join(modules)
             name = "::".join([crate, *([before] if before else []), function[2]])
             end = name if not inside else function[2] if of_trait else f"{inside}::{function[2]}"
-            found.append(Function(file, at, end_of(lines, at, function[1]), name, function[2], end, of_trait if is_inside else ""))
+            found.append(
+                Function(
+                    file,
+                    at,
+                    end_of(lines, at, function[1]),
+                    name,
+                    function[2],
+                    end,
+                    of_trait if is_inside else "",
+                )
+            )
     return found
 
 
 def is_of(function, printed):
     """Whether a name that the prover prints is that of the function, or of a closure in it."""
     has_closure = "::fn::" in printed
-    return bool(re.fullmatch(function.name + ("(?:::.*)?" if has_closure else ""), printed.replace("::fn::", "::")))
-
-
-def parts_a_path(mistake):
-    """Whether a mistake's new texts have more of some word that parts a path than its old ones."""
-    old, new = (collections.Counter(it for change in mistake.changes for it in PARTS.findall(change[form])) for form in (1, 2))
-    return bool(new - old)
+    return bool(
+        re.fullmatch(
+            function.name + ("(?:::.*)?" if has_closure else ""), printed.replace("::fn::", "::")
+        )
+    )
 
 
 def changed_by(mistake, crate, text_of):
@@ -93,7 +113,10 @@ def changed_by(mistake, crate, text_of):
         if at >= 0:
             # What begins with blank lines or an indent begins where its words do.
             line = text.count("\n", 0, at + len(old) - len(old.lstrip()))
-            where = next((one for one in functions_of(crate, file, text) if one.first <= line <= one.last), None)
+            where = next(
+                (one for one in functions_of(crate, file, text) if one.first <= line <= one.last),
+                None,
+            )
         # A text that an earlier change made stands where that one was.
         if where is None:
             outside = True
