@@ -3,12 +3,11 @@ rows and changes as the program does, for tests alone."""
 import operator
 import pathlib
 import re
-import sys
+
+from tests.adapter.frames import DONE, framed, launch, messages, sent
 
 TOP = pathlib.Path(__file__).resolve().parent.parent
-sys.path += [str(TOP / "tests" / "adapter"), str(TOP / "course")]  # behind tests, whose counting.py is wanted
 
-from frames import DONE, framed, launch, messages, sent
 
 OPERATORS = {"+": operator.add, "-": operator.sub, "*": operator.mul}
 REGISTERS = ("A", "X", "I1", "I2", "I3", "I4", "I5", "I6", "J")

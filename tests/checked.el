@@ -1,4 +1,4 @@
-;;; checked.el --- what Emacs finds in faulty.mixal, for tests/checked  -*- lexical-binding: t; -*-
+;;; checked.el --- what Emacs finds in faulty.mixal, for tests/test_checked.py  -*- lexical-binding: t; -*-
 
 ;; For each finding the file `found' gets a line: the number of the line, the severity, and what begins at the place to which it leads.
 (let ((default-directory "/usr/share/emacs/site-lisp/elpa"))

@@ -1,4 +1,4 @@
-" What Vim finds in faulty.mixal, for tests/checked. For each finding the file `found` gets a line: the number of the line, the severity, and what begins at
+" What Vim finds in faulty.mixal, for tests/test_checked.py. For each finding the file `found` gets a line: the number of the line, the severity, and what begins at
 " the place to which it leads.
 set encoding=utf-8
 let &runtimepath = expand('<sfile>:p:h:h') . '/editors/vim,' . &runtimepath

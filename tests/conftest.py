@@ -4,6 +4,7 @@ import pytest
 
 def pytest_addoption(parser):
     parser.addoption("--program", required=True, help="the built program")
+    parser.addoption("--examples", type=int, help="how many inputs each random test draws")
 
 
 @pytest.fixture

@@ -1,4 +1,4 @@
-# Counts the rows of a test in bash, which sources it; counting.py is its like in Python. $here is a folder that goes away at the end.
+# Counts the rows of a test in bash, which sources it; tally.py is its like in Python. $here is a folder that goes away at the end.
 passed=0
 failed=0
 here=$(mktemp -d)

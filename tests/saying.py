@@ -23,6 +23,11 @@ def between(text, begin, end):
     return text.partition(begin)[2].partition(end)[0]
 
 
+def formats():
+    """What the documents say of the formats."""
+    return "\n".join(read(f"docs/{name}.md") for name in ("RUNS", "FILES", "COMMANDS"))
+
+
 def codes(text):
     return re.findall(r"`([^`\n]+)`", text)
 
@@ -85,10 +90,10 @@ def is_among(form, lines):
 # What the documents say
 
 
-def tables(head, name="docs/FORMATS.md"):
-    """The cells of each row of the tables whose first column has this head."""
+def tables(head, text):
+    """The cells of each row of the tables of a text whose first column has this head."""
     inside = False
-    for line in read(name).splitlines():
+    for line in text.splitlines():
         cells = [cell.strip() for cell in line.strip("|").split("|")] if line.startswith("|") else []
         inside = bool(cells) and (inside or cells[0] == head)
         if inside and cells[0] != head and not set(line) <= set("|- "):
@@ -96,8 +101,8 @@ def tables(head, name="docs/FORMATS.md"):
 
 
 def items(part):
-    """The items of a part of FORMATS.md that begin with code: the codes, and what is said of them."""
-    text = between(read("docs/FORMATS.md"), f"\n## {part}\n", "\n## ")
+    """The items of a part of the formats that begin with code: the codes, and what is said of them."""
+    text = between(formats(), f"\n## {part}\n", "\n## ")
     return [(codes(head), normal(says)) for head, says in re.findall(r"^- (`[^`]+`(?:, `[^`]+`)*): (.*(?:\n  .*)*)", text, re.M)]
 
 

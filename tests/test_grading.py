@@ -3,6 +3,7 @@ import csv
 import json
 import os
 import pathlib
+import shutil
 import subprocess
 
 import pytest
@@ -10,8 +11,10 @@ import pytest
 GRADE = pathlib.Path(__file__).resolve().parent.parent / "grade"
 COURSE = GRADE.parent / "course"
 SUM = "N EQU 3\nSTART ENT1 N\nLOOP INCA 2\n DEC1 1\n J1P LOOP\n STA SUM\n HLT\nSUM CON 0\n END START\n"
+OWN_DECK = " IN 100(0)\n JBUS *(0)\n LDA 100\n HLT\n END 0\n%DEVICES\n%UNIT 0\n+0000000007\n" + "+0000000000\n" * 99
 REFUSED = "\ufeffSTART FOO 1\n BAR 2\n HLT\n"
 FAULTS = ["line 1, column 1: A1 bad byte: a byte order mark: save the source without it", "line 2, column 2: A2 no such operation: BAR"]
+FOUND = "1_own: number 1 is not what is wanted: rA holds 6"
 
 
 @pytest.fixture
@@ -27,31 +30,104 @@ def course(tmp_path, program, monkeypatch):
     return tmp_path
 
 
-def said(*words):
+def rows_of(text):
+    return list(csv.reader(text.split("\n")[:-1]))
+
+
+def said(*words, status=0, told=""):
     ran = subprocess.run([str(GRADE / words[0]), *words[1:]], capture_output=True, text=True)
-    assert ran.stderr == ""
+    assert (ran.returncode, ran.stderr) == (status, told)
     return ran.stdout
 
 
 def graded(name, text, *form):
     pathlib.Path(name).write_text(text)
-    verdicts = said("cases", "cases", name, "verdicts")
-    return verdicts, said("marks", "cases", "verdicts", name, *form)
+    verdicts = said("cases", "cases", f"./{name}", "verdicts")
+    return verdicts, said("marks", "cases", "verdicts", *form, f"./{name}")
+
+
+def case(**files):
+    """A case of its own for the sum, with these files too."""
+    folder = pathlib.Path("one/1_case")
+    folder.mkdir(parents=True)
+    for name, text in {"cells": "SUM\n", "wanted": "6\n", **files}.items():
+        if text is not None:
+            (folder / name).write_text(text)
+
+
+@pytest.mark.parametrize("files, old, new, reason", [
+    ({"limits": "clock <= 20\n"}, "SUM CON", "clock ENT5 0\nSUM CON", "clock is 22, and not <= 20"),
+    ({"limits": "clock <= 20\n"}, "SUM CON", "CLOCK ENT5 0\nSUM CON", "clock is 22, and not <= 20"),
+    ({"limits": "clock <= 20\n"}, "SUM CON", "STEPS ENT5 0\nSUM CON", "clock is 22, and not <= 20"),
+    ({"limits": "steps <= 9\n"}, "SUM CON", "steps ENT5 0\nSUM CON", "steps is 12, and not <= 9"),
+    ({"limits": "steps <= 9\n"}, "N EQU", "steps EQU 1\nN EQU", "steps is 12, and not <= 9"),
+    ({"limits": "loop <= 2\n"}, "SUM CON", "\tLOOP\tNOP\nSUM CON", "refused at line 8, column 2: A2 no such operation: LOOP"),
+    ({"limits": "ENT1 >= 1\n"}, "START ENT1", "START NOP\n\tENT1", "no line has the label ENT1"),
+    ({"limits": "LOOP = 3\nclock = 22\n"}, SUM, SUM.lower(), ""),
+    ({"limits": "Loop = 3\nclock = 22\n"}, "", "", ""),
+    ({"data": "N EQU 3\n"}, SUM, SUM.lower(), ""),
+    ({"data": "n equ 5\n", "wanted": "10\n"}, "N EQU", "N\tequ", ""),
+    ({"cells": "A\n", "wanted": "7\n"}, SUM, OWN_DECK, "no halt: fault M11 no block at 0000 clock 0"),
+    ({"cells": "A\n", "wanted": "7\n"}, SUM, OWN_DECK.replace("+0", "junk"), "no halt: fault M11 no block at 0000 clock 0"),
+    ({"script": "step\n", "wanted": "ran 1 to 0001 clock 1: limit\n", "cells": None}, SUM, OWN_DECK, "line 1 is not what is wanted: ran 0 to 0000 clock 0: fault M11 no block"),
+])
+def test_no_label_is_a_measure_and_no_deck_is_a_students(course, files, old, new, reason):
+    case(**files)
+    pathlib.Path("a.mixal").write_text(SUM.replace(old, new))
+    assert said("cases", "one", "a.mixal") == "1..1\n" + (f"not ok - a.mixal one/1_case: {reason}\n" if reason else "ok - a.mixal one/1_case\n")
 
 
 def test_names_beyond_ascii_stay_as_they_are(course):
     verdicts, marks = graded("Müller Jörg.mixal", SUM)
-    assert "ok - Müller Jörg.mixal cases/2_hidden\n" in verdicts
+    assert "ok - ./Müller Jörg.mixal cases/2_hidden\n" in verdicts
     assert marks.splitlines()[1] == "Müller Jörg,0,1,1,2,50"
 
 
-def test_a_name_that_a_spreadsheet_would_work_out_is_spelled(course):
-    assert graded("=1+1.mixal", SUM)[1].splitlines()[1].startswith("%3D1+1,")
+@pytest.mark.parametrize("name, spelled", [("=1+1", "%3D1+1"), ("-2+3", "%2D2+3"), ("2+3", "2+3"), ("@a", "%40a"), ("a\n=b", "a%0A%3Db"), ("a%0A=b", "a%250A%3Db"),
+                                           ("学" * 83, "学" * 83), ("#" * 249, "%23" * 249), ("\udcff" * 249, "%FF" * 249)])
+def test_a_name_is_told_from_each_other_and_is_no_formula(course, name, spelled):
+    verdicts, marks = graded(f"{name}.mixal", SUM)
+    assert verdicts.count("\nok - ") == 1 and marks.splitlines()[1] == f"{spelled},0,1,1,2,50"
+
+
+def test_who_has_no_cases_reads_of_nobody_else(course):
+    for name in ("bea", "zed"):
+        pathlib.Path(f"{name}.mixal").write_text(SUM)
+    (course / "each").mkdir()
+    (course / "cases").rename(course / "each" / "bea")
+    (course / "each" / "bea" / "no_case").mkdir()
+    (course / "each" / "..mixal").write_text(SUM)
+    for name in ("zed.mixal", "each/..mixal"):
+        assert said("cases", "each", name, "verdicts", status=2, told=f"grade/cases: no cases for {pathlib.Path(name).stem}\n") == "1..0\n"
+    said("cases", "each", "bea.mixal", "verdicts")
+    told = "grade/marks: no cases for zed\n"
+    for form, marks in (((), "source,1_own,2_hidden,points,of,percent\nbea,0,1,1,2,50\nzed,,,,,\n"),
+                        (["--moodle"], f"ID number,Grade,Feedback\nbea,50,{FOUND}\nzed,,no cases for zed\n")):
+        assert said("marks", "each", "verdicts", "bea.mixal", "zed.mixal", *form, status=1, told=told) == marks
+    assert said("marks", "each", "verdicts", "zed.mixal", "--gradescope", status=1, told=told) == ""
+    assert said("marks", "each", "verdicts", "zed.mixal", "--vpl", status=1, told=told) == "Comment :=>>no cases for zed\n"
+
+
+def test_no_verdict_is_no_mark(course):
+    graded("ada.mixal", SUM)
+    pathlib.Path("verdicts/ada.mixal/cases/2_hidden").unlink()
+    for form, written in (([], "source,1_own,2_hidden,points,of,percent\nada,0,,,,\n"), (["--gradescope"], ""),
+                          (["--moodle"], f"ID number,Grade,Feedback\nada,,{FOUND}; 2_hidden: no verdict\n"),
+                          (["--vpl"], f"Comment :=>>{FOUND}\nComment :=>>2_hidden: no verdict\n")):
+        assert said("marks", "cases", "verdicts", "./ada.mixal", *form, status=1, told="grade/marks: no verdict on ./ada.mixal cases/2_hidden\n") == written
+
+
+@pytest.mark.parametrize("letter", ["\u2028", "\x85", "\x1c", "\x0c", "\udcff", "\x00"])
+def test_no_letter_of_a_source_ends_the_marks_of_a_class(course, letter):
+    pathlib.Path("ada.mixal").write_text(SUM.replace("LOOP INCA", f"LOOP{letter} F{letter}OO"), errors="surrogateescape")
+    said("cases", "cases", "./ada.mixal", "verdicts")
+    marks = list(csv.DictReader(said("marks", "cases", "verdicts", "./ada.mixal", "--moodle").splitlines()))
+    assert marks[0]["Grade"] == "0" and marks[0]["Feedback"].startswith("refused: line 3, column ")
 
 
 def test_what_was_found_is_told_but_not_of_a_hidden_case(course):
     feedback = list(csv.DictReader(graded("ada.mixal", SUM, "--moodle")[1].splitlines()))[0]["Feedback"]
-    assert feedback == "1_own: number 1 is not what is wanted: rA holds 6"
+    assert feedback == FOUND
     feedback = list(csv.DictReader(graded("eve.mixal", SUM.replace("ENT1 N", "ENT1 M"), "--moodle")[1].splitlines()))[0]["Feedback"]
     assert feedback == ("line 2, column 12: warning: M is defined nowhere: END makes a cell of 0 for it; "
                         "1_own: number 1 is not what is wanted: rA holds 14; 2_hidden")
@@ -108,53 +184,19 @@ def test_if_all_handed_in_the_same_each_pair_is_found(course):
     assert said("likeness", *names).splitlines()[1:] == ["ada,bea,100", "ada,cem,100", "bea,cem,100"]
 
 
-def test_a_folder_of_moodle_is_unpacked_as_its_zip(course):
-    folder = pathlib.Path("download/Müller Jörg_7_assignsubmission_file_")
-    folder.mkdir(parents=True)
-    (folder / "a.MIX").write_bytes(b"\xff\xfe" + SUM.replace("\n", "\r\n").encode("utf-16-le"))
-    (folder / "a.png").write_bytes(b"\x89PNG")
-    assert said("unpack", "download", "sources").splitlines()[1:] == ['7,Müller Jörg,a.MIX,"was UTF-16, had CR at line ends"']
-    assert pathlib.Path("sources/7.mixal").read_text() == SUM
+# What is typed after an instruction, and what course/times writes of it for LaTeX.
+REMARKS = [("plain -- of N_1", r"\texttt{~HLT~0~plain~-{}-~of~N\_1}"), ("?` !`", r"\texttt{~HLT~0~?{}`~!{}`}"),
+           ("\\input{x} \x0c \x7f %", r"\texttt{~HLT~0~\textbackslash{}input\{x\}~?~?~\%}"),
+           *((words, r"\anyscript{~HLT~0~%s}" % words) for words in ("«ß„ąţ", "λόγος", "сумма", "合計", "جمع", "e\u0301\u2028\u202e👍"))]
 
 
-def handed_in(folder, text):
-    folder.mkdir(parents=True)
-    (folder / "ex.txt").write_bytes(text.replace("\n", "\r\n").encode())
-
-
-def test_gradescope_gets_the_cases_of_the_student(course):
-    pathlib.Path("each").mkdir()
-    pathlib.Path("cases").rename("each/ada@example.org")
-    pathlib.Path("autograder").mkdir()
-    said("pack", "gradescope", "each", "autograder.zip")
-    subprocess.run(["unzip", "-q", "autograder.zip", "-d", "autograder/source"], check=True)
-    handed_in(pathlib.Path("autograder/submission"), SUM)
-    pathlib.Path("autograder/results").mkdir()
-    for address, score in (("ada@example.org", 1), ("bea@example.org", 0)):
-        pathlib.Path("autograder/submission_metadata.json").write_text(json.dumps({"users": [{"email": address, "id": 7, "name": "A"}]}))
-        subprocess.run(["bash", "autograder/source/run_autograder"], env={**os.environ, "AUTOGRADER": "autograder"}, check=True)
-        result = json.loads(pathlib.Path("autograder/results/results.json").read_text())
-        assert result["score"] == score
-        assert [test["score"] for test in result.get("tests", [])] == ([0, 1] if score else [])
-    assert result["output"] == "there are no cases for bea@example.org: tell your teacher"
-
-
-def test_a_quiz_by_vpl_gets_comments_and_a_grade(course):
-    handed_in(pathlib.Path("quiz"), SUM)
-    said("pack", "vpl", "cases", "quiz/vpl_evaluate.sh")
-    pathlib.Path("quiz/vpl_environment.sh").write_text("export VPL_GRADEMIN=0 VPL_GRADEMAX=20 MOODLE_USER_ID=5\n")
-    subprocess.run(["./vpl_evaluate.sh"], cwd="quiz", check=True)
-    ran = subprocess.run(["./vpl_execution"], cwd="quiz", capture_output=True, text=True, check=True)
-    assert ran.stdout == "Comment :=>>1_own: number 1 is not what is wanted: rA holds 6\nGrade :=>>10\n"
-
-
-@pytest.mark.parametrize("case, status", [("1_own", 1), ("2_hidden", 0)])
-def test_the_action_of_a_classroom_fails_with_a_case(course, case, status):
-    pathlib.Path("some").mkdir()
-    pathlib.Path("cases", case).rename(f"some/{case}")
-    said("pack", "classroom", "some", "template")
-    pathlib.Path("template/ex.mixal").write_text(SUM)
-    action = pathlib.Path("template/.github/workflows/grade.yml").read_text()
-    command = action.partition("- run: ")[2]
-    ran = subprocess.run(["bash", "-e", "-c", command], cwd="template", env={**os.environ, "MIXREV": "grading/mixrev"}, capture_output=True, text=True)
-    assert (ran.returncode, case in ran.stdout) == (status, True)
+@pytest.mark.parametrize("remark, cell", REMARKS)
+def test_typeset(program, tmp_path, remark, cell):
+    """A remark in any script is a row of a table for LaTeX, which pdflatex takes without a fault; in CSV it is a text for a spreadsheet."""
+    source = tmp_path / "n.mixal"
+    source.write_text(f"N EQU 1\n\tENTA\tN\n HLT 0 {remark}\n END 0\n")
+    texts = [subprocess.run([COURSE / "times", program, source, "N=1", form], capture_output=True, check=True).stdout for form in ("--latex", "--csv")]
+    assert f"{cell} & 1 \\\\" in texts[0].decode().split("\n") and texts[1].startswith(b"N=1,line\n1,'\tENTA\tN\n1,")
+    (tmp_path / "n.tex").write_bytes(b"\\documentclass{article}\n\\begin{document}\n" + texts[0] + b"\\end{document}\n")
+    if shutil.which("pdflatex"):
+        subprocess.run(["pdflatex", "-interaction=batchmode", "-halt-on-error", "n.tex"], cwd=tmp_path, check=True, capture_output=True)

@@ -7,15 +7,14 @@ import pathlib
 import random
 import re
 import subprocess
-import sys
 import xml.etree.ElementTree
 
 import pytest
 
-TOP = pathlib.Path(__file__).resolve().parent.parent
-sys.path.append(str(TOP / "course"))
-
 from machine import CHARACTERS
+
+TOP = pathlib.Path(__file__).resolve().parent.parent
+
 
 COUNT = re.compile(r" *(\d+) +(\d+)  (\d{4})(?:  ([ \d]{5}).*)?")
 STEP = re.compile(r" *(\d+)  (\d{4})  (.*?) +(\d+)u(?:  (.*))?")
@@ -94,17 +93,15 @@ def test_traced(run, session, source, deck, page):
 
 @EACH
 def test_counted(run, session, source, deck, page):
-    """The table of the counts of a run has the numbers of show counts, in each form."""
+    """The table of the counts of a run has the numbers of show counts; in LaTeX the lines have them."""
     texts = [run(source, deck, "--counts", "--steps", "1000000", *form)[0] for form in ((), ("--json",), ("--latex",))]
     shown = [COUNT.fullmatch(line) for line in session("run 1000000\nshow counts\n", deck and "deck")]
     wanted = [[(one[4] or "").strip(), str(int(one[3])), one[1], one[2]] for one in shown if one and one[1] != "0"]
     names, *rows = csv.reader(texts[0].splitlines())
     objects = [["" if one[name] is None else str(one[name]) for name in names] for one in json.loads(texts[1])]
-    lines = texts[2].splitlines()
-    cells = [line.removesuffix(r" \\").split(" & ") for line in lines[4:-2]]
-    assert names == ["line", "location", "count", "time"]
-    assert lines[:4] + lines[-2:] == [r"\begin{tabular}{rrrr}", r"\toprule", r"line & location & count & time \\", r"\midrule", r"\bottomrule", r"\end{tabular}"]
-    assert wanted == rows == objects == cells != []
+    assert names == ["line", "location", "count", "time"] and wanted == rows == objects != []
+    cells = [line.split(" & ") for line in texts[2].splitlines()]
+    assert sorted([row[0], f"${row[2]}$"] for row in rows if row[0]) == sorted([row[0], row[4]] for row in cells if len(row) == 6 and row[4][:1] == "$")
 
 
 @EACH

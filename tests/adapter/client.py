@@ -2,16 +2,14 @@
 import json
 import os
 import subprocess
-import sys
 import threading
 import time
 
-from debugpy.common import messaging
+import pytest
 
-sys.path.append(os.path.dirname(os.path.dirname(os.path.abspath(__file__))))
+from tests.adapter import schema
 
-import schema
-from counting import Count
+messaging = pytest.importorskip("debugpy.common.messaging", reason="python3-debugpy is not there")
 
 SECONDS = float(os.environ.get("WAIT", "20"))  # in which whatever is waited for has to come
 
@@ -20,7 +18,7 @@ class Ended(Exception):
     """A talk that can't go on."""
 
 
-class Recorded(messaging.JsonIOStream):
+class Recorded(messaging.JsonIOStream):  # type: ignore
     """A stream of messages that keeps what was read."""
 
     def read_json(self, decoder=None):
@@ -30,11 +28,10 @@ class Recorded(messaging.JsonIOStream):
 
 
 class Client:
-    def __init__(self, command, count, name):
-        self.count, self.name = count, name
+    def __init__(self, command):
         self.messages, self.heard, self.seen = [], threading.Condition(), 0
         self.process = subprocess.Popen(command, stdin=subprocess.PIPE, stdout=subprocess.PIPE, stderr=subprocess.PIPE)
-        stream = Recorded.from_process(self.process, name)
+        stream = Recorded.from_process(self.process)
         stream.keep = self.keep
         self.channel = messaging.JsonMessageChannel(stream, messaging.MessageHandlers(event=lambda event: None))
         self.channel.start()
@@ -59,7 +56,7 @@ class Client:
     def body(self, command, **arguments):
         """The body of a response that accepts."""
         response = self.ask(command, **arguments)
-        self.count.row(f"{self.name}: {command} {arguments}", response["success"], f"refused: {response.get('message')}")
+        assert response["success"], (command, arguments, response.get("message"))
         return response.get("body", {})
 
     def refused(self, command, **arguments):
@@ -130,8 +127,7 @@ class Client:
             cells = {variable["name"]: variable for variable in self.variables(page["variablesReference"])} if page["name"][:2] == f"{cell:04}"[:2] else {}
             if f"{cell:04}" in cells:
                 return page["variablesReference"], cells[f"{cell:04}"]
-        self.count.row(f"{self.name}: cell {cell}", False, "not among the memory's pages")
-        return 0, {"value": "", "memoryReference": "0"}
+        raise AssertionError(f"cell {cell} is not among the memory's pages")
 
     def repl(self, line):
         return self.body("evaluate", expression=line, context="repl")["result"].rstrip("\n")
@@ -159,32 +155,9 @@ class Client:
             self.process.kill()
             ended = "none, and it was killed"
         self.channel.close()
-        self.count.same(f"{self.name}: status", ended, status)
+        assert ended == status
         for message in self.messages:
             wrong = schema.faults(message)
-            self.count.row(f"{self.name}: schema", not wrong, f"{wrong} in {message}")
+            assert not wrong, message
         numbers = [message["seq"] for message in self.messages]
-        self.count.row(f"{self.name}: numbers of messages", numbers == sorted(set(numbers)), numbers)
-
-
-def talked(talk, **initialize):
-    """The part of a test that has a talk; one that can't go on is a failure."""
-    def part(command, count):
-        client = Client(command, count, talk.__name__)
-        try:
-            client.begin(**initialize)
-            talk(client, count)
-        except Exception as problem:
-            count.row(f"{talk.__name__} goes on", False, f"{type(problem).__name__} {problem}")
-            client.kill()
-    return part
-
-
-def run(*parts):
-    """Runs parts of a test on the adapter that the words of the command line start, and ends with the status, whatever a channel still waits for."""
-    count = Count()
-    for part in parts:
-        part([os.path.abspath(sys.argv[1]), *sys.argv[2:]], count)
-    status = count.ended()
-    sys.stdout.flush()
-    os._exit(status)
+        assert numbers == sorted(set(numbers))

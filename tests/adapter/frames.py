@@ -10,7 +10,7 @@ import subprocess
 HEADER, BODY = 4096, 134217728
 CUT, LONG = "cut", "too long"
 GOOD = [b"", 0]
-DONE = ("configurationDone", {})
+DONE: tuple = ("configurationDone", {})
 
 
 def frame(body):

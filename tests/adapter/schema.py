@@ -2,8 +2,12 @@
 
 The classes are built from each message, so what is required has to be there; and each member, at any depth, has to be one that the class of its
 place has, of the type that stands there."""
-from _pydevd_bundle._debug_adapter import pydevd_base_schema as base
-from _pydevd_bundle._debug_adapter import pydevd_schema  # the classes put themselves into the tables of the base
+import importlib
+
+import pytest
+
+base = pytest.importorskip("_pydevd_bundle._debug_adapter.pydevd_base_schema", reason="python3-debugpy is not there")
+importlib.import_module("_pydevd_bundle._debug_adapter.pydevd_schema")  # its classes put themselves into the tables of the base
 
 TYPES = {"string": str, "boolean": bool, "integer": int, "number": (int, float), "array": list, "object": dict, "null": type(None)}
 # Members of the protocol that are newer than these classes, and those that it does not have.

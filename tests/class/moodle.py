@@ -14,7 +14,7 @@ SAME = {
     "wide": lambda text: codecs.BOM_UTF16_LE + text.encode("utf-16-le"),
     "windows": lambda text: text.replace("\n", "\r\n").encode(),
 }
-BROKEN = ["two sources", "a Word document", "an empty file", "two pictures", "a damaged file"]
+BROKEN = ["two sources", "a Word document", "an empty file", "two pictures", "a damaged file", "an online text"]
 
 
 def packed(folder, students, seed):
@@ -34,6 +34,8 @@ def packed(folder, students, seed):
                 broken[student] = what
             if what == "a Word document":
                 zipped.writestr(f"{within}homework.docx", b"PK\3\4\x14\0" + rng.randbytes(3000))
+            elif what == "an online text":
+                zipped.writestr(f"{within.replace('file', 'onlinetext')}onlinetext.html", data)
             elif what == "an empty file":
                 zipped.writestr(f"{within}ex{ending}", b"")
             elif what == "two pictures":

@@ -15,8 +15,8 @@ What a command asks for is what a script asks for with it as the last line, beyo
 
 import os
 
-from memory import FIRST, MOVE
-from running import Count, Runner, folder, library, lines
+from tests.hostile.memory import EACH, FIRST
+from tests.hostile.runner import Count, Runner, folder, library, lines
 
 LOOP = lines(" JMP *", " END 0")
 CELLS = 4000 * 4
@@ -24,7 +24,7 @@ RUN, PLACE = 16, 8
 UNIT, MOST = 4, 104 * 3  # units of a step at most
 LISTS = [4 * RUN, 4 * PLACE]  # of the first change
 STEP = [4 * RUN, MOST * UNIT]  # of the first step, which is plain
-REFUSED = ([], LISTS)
+REFUSED: tuple = ([], LISTS)
 
 
 def grown(entry, first, needed):
@@ -40,7 +40,7 @@ ROWS = [
     ("a blank line", FIRST, b"", b"    ", [], b""),
     ("a remark", FIRST, b"", b"*   ", [], b""),
     ("a step that keeps three values", FIRST, b"", b"step", STEP, b"ran 1 to 0001 clock 1: limit\n"),
-    ("a step of a MOVE, where 311 units are left", MOVE, b"step\n", b"step", [2 * MOST * UNIT], b"ran 1 to 0002 clock 128: limit\n"),
+    ("a step of a MOVE, where 311 units are left", EACH["a move"].source, b"step\n", b"step", [2 * MOST * UNIT], b"ran 1 to 0002 clock 128: limit\n"),
     ("the third step, for which there is room", FIRST, b"step 2\n", b"step", [], b"ran 1 to 0003 clock 4: limit\n"),
     ("four steps", FIRST, b"", b"step 4", [*STEP, 2 * MOST * UNIT], b"ran 4 to 0004 clock 14: halt\n"),
     ("the fifth step", LOOP, b"step 4\n", b"step", [], b"ran 1 to 0000 clock 5: limit\n"),

@@ -4,32 +4,14 @@ import concurrent.futures
 import multiprocessing
 import os
 
-from running import Count, Runner, bundle, folder, lines, takes_words
+from tests.hostile.runner import BUNDLES, Count, Runner, bundle, folder, lines, takes_words
 
-import bundle as model
+from tests.model import bundle as model
 
-# A source with a symbol, remarks, words of characters and a start.
-HELLO = b"""TERM   EQU    19          the console
-       ORIG   1000
-START  OUT    MSG(TERM)   output
-       HLT                halt execution
-MSG    ALF    "MIXAL"
-       ALF    " HELL"
-       ALF    "O WOR"
-       ALF    "LD   "
-       END    START
-"""
+HELLO = BUNDLES["memory"]["a source with characters"].source
 GREETED = lines("run 100", "show unit 19", "back all", "show changes")
-
-# A program that reads a block of tape and a card, and a deck with both.
-READS = lines(" IN 100(0)", " IN 300(16)", " IN 300(16)", " HLT", " END 0")
-DECK = lines("%UNIT 0", *(" ".join("%s0063%06d" % ("+-"[k % 2], 3 * line + k) for k in range(3)) for line in range(20)),
-             *(" ".join("-%010d" % (k % 64) for k in range(5)) for line in range(8)),
-             "%unit 16 delay 7", "THE FIRST CARD", "", "AND THE LAST: (1+2)*3/4=$<>@;'")
-READ = lines("run 9", "show unit 0", "show unit 16", "show cells 300 302", "back all")
-
-REFUSED = lines("set I1 4096", "set loc 4000", "jump", "back 0", "set A 5", "step 2", "show regs", "back 1", "forth 1", "trace 2", "run 9 until cell 100",
-                "back until A", "forth until loc 2", "goto 3", "show last 2", "show diff 1", "show counts", "back until X")
+READS, DECK, READ, _ = BUNDLES["cuts"]["a tape and cards are read"]
+REFUSED = BUNDLES["cuts"]["commands that are refused"].script
 BYTES = (0, 10, 34, 63, 255)
 ENDS = {0, 1, 3}  # and T5
 

@@ -3,7 +3,7 @@
 import os
 import subprocess
 
-from running import SECONDS, Count, Runner, bundle, folder, lines, takes_words
+from tests.hostile.runner import SECONDS, Count, Runner, bundle, folder, lines, takes_words
 
 SOURCE, SCRIPT, DECK, BUNDLE = 1048576, 1048576, 33554432, 41943040
 END = b" END 0\n"

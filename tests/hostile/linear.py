@@ -7,7 +7,7 @@ import os
 import re
 import subprocess
 
-from running import HERE, Count, bundle, folder, library, lines
+from tests.hostile.runner import HERE, Count, bundle, folder, library, lines
 
 # Twice, and a tenth for what is done once and for the lengths of numbers.
 MOST = 2.2

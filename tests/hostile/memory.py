@@ -14,63 +14,14 @@ import os
 import pathlib
 import re
 
-from cuts import DECK, GREETED, HELLO
-from running import Count, Runner, bundle, folder, library, lines, shown, takes_words
+from tests.hostile.runner import BUNDLES, Count, Runner, bundle, folder, library, shown, takes_words
 
 T1 = b"mixrev: T1 out of memory\n"
 OWN = 9  # the status of tests/hostile/again where its own needs were refused
 MOST = 100000
 
-FIRST = lines(" ENTA 5", " INCA 7", " STA 100", " HLT", " END 0")
-LITERALS = lines(" LDA =3=", " LDA =3=", "2H JMP NOWHERE", " JMP 2F", " JMP 2B", "2H LDX ELSEWHERE", " LDA =-1(0:1),16(2:2)=", " END 0")
-MOVE = lines(" ENT1 101", " MOVE 100(63)", " END 0")
-TAPE_IN = lines(" IN 0(0)", " END 0")
-DISK_OUT = lines(" LDX =2=", " OUT 0(8)", " END 0")
-OUTPUTS = lines(" OUT 100(1)", " OUT 100(2)", " OUT 100(17)", " OUT 100(18)", " IOC 0(18)", " OUT 100(19)", " OUT 100(20)", " IOC 0(2)", " OUT 200(2)",
-                " IOC 0(18)", " HLT", " END 0")
-TRANSFERS = lines(" IN 1000(0)", " IN 1000(16)", " IN 1000(20)", " IN 1100(8)", " LDX =4=", " OUT 1000(8)", " OUT 1000(20)", " OUT 1000(0)", " HLT", " END 0")
-WORDS = lines(*(" ".join("%s%010d" % ("+-"[k % 2], k % 64) for k in range(10)) for _ in range(10)))
-DELAYED = lines("%UNIT 0 delay 5") + WORDS + lines("%UNIT 8 delay 123456789") + WORDS + WORDS + \
-    lines("%UNIT 16 delay 7", "A CARD", "ANOTHER", "%UNIT 20 delay 999", "A LINE", "", "%UNIT 18 delay 3")
-BLOCK = lines("%UNIT 0") + WORDS
-UNITS = lines(*("show unit %d" % unit for unit in (0, 1, 2, 8, 16, 17, 18, 19, 20)))
-EVERY = lines("* a remark", "", "step", "step 2", "back 1", "forth 1", "run 5", "back break", "forth 1", "back all", "forth 2", "break 2", "run 9", "clear 2",
-              "break 3", "break 100", "set A 5", "set X -7", "set I1 -1", "set I6 4095", "set J 9", "set cell 10 1(0:2),-3", "set cell 11 LOOP+1",
-              "set loc LOOP", "set over on", "set over off", "set cmp L", "set cmp E", "set cmp G", "show regs", "show cells 0 12", "show clock", "show unit 19",
-              "show unit 0", "show breaks", "show changes", "run 3", "back break", "back 2", "forth 1", "jump", "step 0", "step x", "back 1000", "forth 1000",
-              "set I1 4096", "set loc 4000", "show cells 2 1", "break line 2", "clear line 3", "trace 3", "run 9 until cell 100", "run 9 until unit 19", "run 3 until X",
-              "back until unit 19", "forth until A", "back until X", "forth all", "goto 3", "goto 5", "forth until cmp", "show last 4", "show diff 0", "show diff 9",
-              "show counts", "show code", "show code 0 4", "show value LOOP+1", "show values", "show values 0 2", "show symbols", "trace 0", "show diff 99",
-              "back until unit 21", "back all", "show changes")
-LOOP = lines("LOOP ENTA 5", " OUT 100(19)", " STA 100", " JMP LOOP", " END LOOP")
-MANY = lines("run 3000", "back 2999", "forth 2999", "break 1", "run 10", "back break", "back all")
-PAST = lines("run 300", "show counts", "show last 20", "back until cell 100", "back until X", "forth until X", "forth until A", "goto 300", "show diff 0", "trace 20",
-             "goto 7", "show diff 320")
-FAULTY = lines("step 3", "run 9", "back 1", "forth 1", "trace 3", "run 3 until X")
-
-
-def bundles(shows_all):
-    """Name, source, deck or None, script."""
-    last = lines("show all") if shows_all else b""
-    yield "a source with characters", HELLO, None, GREETED + last
-    yield "literals and undefined names", LITERALS, None, lines("show cells 0 12", "set A NOWHERE+2B", "back 1")
-    yield "the first example", FIRST, None, lines("step 4", "back 2", "show regs")
-    yield "four units with delays", TRANSFERS, DELAYED, lines("run 100", "show conflicts") + UNITS + lines("back all", "forth 3", "back 2") + UNITS + last
-    yield "a deck", b" END 0\n", DECK, UNITS + last
-    yield "a move", MOVE, None, lines("set cell 100 7", "step 2", "show cells 163 164", "back 1", "forth 1", "show cells 163 163")
-    yield "a tape is read", TAPE_IN, BLOCK, lines("step", "back 1", "forth 1", "show unit 0")
-    yield "a disk is written past its end", DISK_OUT, None, lines("step 2", "show unit 8", "back 1", "forth 1")
-    yield "each unit is written", OUTPUTS, None, lines("step 4", "step 20") + UNITS + lines("back all", "forth 11", "back break") + last
-    yield "every command", LOOP, None, EVERY + last
-    yield "many steps", LOOP, None, MANY
-    yield "far back", LOOP, None, PAST
-    yield "a move and transfers, told", lines(" ENTA 7", " STA 100", " ENT1 101", " MOVE 100(63)", " OUT 100(0)", " IOC 0(0)", " OUT 0(0)", " OUT 0(18)", " HLT", " END 0"), None, \
-        lines("trace 9", "back until cell 163", "show diff 6", "forth until unit 18", "show last 9", "back until unit 0", "show diff 0", "show counts")
-    yield "a fault after some steps", lines(" ENTA 5", " STA 50", " STA 4000", " END 0"), None, FAULTY
-    yield "a refused source", lines(" LDA =3=", " JMP NOWHERE", " JUMP 0"), None, b""
-    yield "a source without END", lines("X NOP", "Y JMP Z"), None, b""
-    yield "a refused deck", FIRST, DELAYED + lines("X?"), lines("step")
-    yield "a script that is too long", FIRST, None, b"\n" * 1048577
+EACH = BUNDLES["memory"]
+FIRST = EACH["the first example"].source
 
 
 class Refusing:
@@ -110,14 +61,8 @@ def refused_in_turn(program, place, text, words=()):
     return MOST, (MOST, whole, "an end")
 
 
-def shows_all(program, text):
-    """Whether a program knows `show all`."""
-    with folder() as place:
-        return Runner(program, place).run(text)[0].startswith(b"A  + 00 00 00 00 00\n")
-
-
 def cases(program, place):
-    for name, source, deck, script in bundles(shows_all(program, bundle(b" END 0\n", b"show all"))):
+    for name, (source, deck, script, _) in EACH.items():
         yield name, bundle(source, script, deck), ()
         if takes_words(program):
             files = [os.path.join(place, "%s of %s" % (part, name.replace("/", "-"))) for part in ("source", "script", "deck")]
@@ -134,7 +79,7 @@ def rows(program, workers, quick=False, again=None):
         jobs = [(name, refused_in_turn, program, place, *given) for name, *given in cases(program, place)
                 if not quick or name in ("the first example", "a source with characters")]
         if again:
-            jobs += [(name, made_again, again, place, *given) for name, *given in again_cases(again)]
+            jobs += [(name, made_again, again, place, *given) for name, *given in again_cases()]
         with concurrent.futures.ProcessPoolExecutor(workers, multiprocessing.get_context("fork")) as pool:
             for name, allocations, wrong in pool.map(call, jobs):
                 total += allocations
@@ -159,14 +104,13 @@ def input_of(how, source, deck, script):
     return b"\0".join([how, source, deck or b"", script])
 
 
-def again_cases(program):
-    for name, source, deck, script in bundles(shows_all(program, input_of(b"on", b" END 0\n", b"", b"show all"))):
+def again_cases():
+    for name, (source, deck, script, _) in EACH.items():
         if not name.startswith(("a refused", "a source without", "a script")):
             yield name + ", again", b"again", source, deck, script
-    for name, source, deck, steps in [("the first example", FIRST, None, 4), ("a move", MOVE, None, 2), ("a tape is read", TAPE_IN, BLOCK, 1),
-                                      ("a disk is written past its end", DISK_OUT, None, 2), ("each unit is written", OUTPUTS, None, 11),
-                                      ("four units with delays", TRANSFERS, DELAYED, 9)]:
-        yield name + ", its journal", b"journal", source, deck, b"\n" * steps
+    for name, steps in [("the first example", 4), ("a move", 2), ("a tape is read", 1), ("a disk is written past its end", 2), ("each unit is written", 11),
+                        ("four units with delays", 9)]:
+        yield name + ", its journal", b"journal", *EACH[name][:2], b"\n" * steps
 
 
 def made_again(program, place, how, source, deck, script):

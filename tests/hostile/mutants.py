@@ -7,11 +7,11 @@ import pathlib
 import random
 import signal
 
-from cuts import DECK, GREETED, HELLO, READ, READS
-from running import TOP, Count, Endless, Runner, bundle, folder, lines, ring
+from tests.hostile.cuts import DECK, GREETED, HELLO, READ, READS
+from tests.hostile.runner import TOP, Count, Endless, Runner, bundle, folder, lines, ring
 
-import bundle as model
-from bundles import bundles
+from tests.model import bundle as model
+from tests.runs.bundles import bundles
 
 MODEL_SECONDS = 10  # after which a bundle is not compared: the model is slow, and a mutant may ask for a million steps
 EDGES = [b"0", b"1", b"-1", b"63", b"64", b"999", b"1000", b"3999", b"4000", b"4095", b"4096", b"1000000", b"1000001", b"1073741823",

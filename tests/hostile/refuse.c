@@ -1,7 +1,8 @@
 /* In front of the C library's: the allocation of the number REFUSED_ALLOCATION is refused, REFUSED_COUNT of them in all (1), and the file
    REFUSED_TO is then there. The bytes of each that is asked for are written to the file ASKED_TO, a line each; each read and each write of standard
    output to the file CALLED_TO, with what it gave. A read gives READ_MOST bytes at most, and the one of the number READ_FAILS fails; a write of
-   standard output takes WRITE_MOST, and the one of the number WRITE_FAILS fails. Each file that is opened to be read or written is told to OPENED_TO. */
+   standard output takes WRITE_MOST, and the one of the number WRITE_FAILS fails. Each file that is opened to be read or written, and each that gets
+   another name, is told to OPENED_TO. */
 #define _GNU_SOURCE
 #include <dlfcn.h>
 #include <errno.h>
@@ -113,17 +114,25 @@ ssize_t write(int to, const void *from, size_t size) {
 
 typedef int (*Open)(const char *, int, int);
 
-int open(const char *name, int flags, ...) {
+static void opened(const char *way, const char *name, const char *to) {
     static int file = -2;
-    Open next = (Open)dlsym(RTLD_NEXT, "open");
+    if (file == -2) {
+        const char *log = getenv("OPENED_TO");
+        file = log ? ((Open)dlsym(RTLD_NEXT, "open"))(log, O_CREAT | O_WRONLY | O_APPEND | O_CLOEXEC, 0600) : -1;
+    }
+    if (file >= 0) dprintf(file, "%s %s %s\n", way, name, to);
+}
+
+int open(const char *name, int flags, ...) {
     va_list more;
     va_start(more, flags);
     int mode = flags & (O_CREAT | O_TMPFILE) ? va_arg(more, int) : 0;
     va_end(more);
-    if (file == -2) {
-        const char *to = getenv("OPENED_TO");
-        file = to ? next(to, O_CREAT | O_WRONLY | O_APPEND | O_CLOEXEC, 0600) : -1;
-    }
-    if (file >= 0) dprintf(file, "%s %s\n", flags & O_CREAT ? "written" : "read", name);
-    return next(name, flags, mode);
+    opened(flags & O_CREAT ? "written" : "read", name, "-");
+    return ((Open)dlsym(RTLD_NEXT, "open"))(name, flags, mode);
+}
+
+int rename(const char *name, const char *to) {
+    opened("renamed", name, to);
+    return ((int (*)(const char *, const char *))dlsym(RTLD_NEXT, "rename"))(name, to);
 }

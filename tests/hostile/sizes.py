@@ -2,9 +2,9 @@
 
 import os
 
-from frames import BODY, frame, messages, request
-from limits import DECK, SCRIPT, SOURCE, filled, shown_block
-from running import TOP, Count, Runner, bundle, folder, lines
+from tests.adapter.frames import BODY, frame, messages, request
+from tests.hostile.limits import DECK, SCRIPT, SOURCE, filled, shown_block
+from tests.hostile.runner import TOP, Count, Runner, bundle, folder, lines
 
 LOOP = b" JMP *\n END 0\n"
 MANY = 1000001

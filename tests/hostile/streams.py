@@ -8,8 +8,8 @@ import shutil
 import subprocess
 import threading
 
-from cuts import GREETED, HELLO
-from running import SECONDS, Count, bundle, folder, library, lines, takes_words
+from tests.hostile.cuts import GREETED, HELLO
+from tests.hostile.runner import SECONDS, Count, bundle, folder, library, lines, takes_words
 
 TEXT = bundle(HELLO, GREETED)
 LONG = bundle(lines(" END 0"), lines(*["show cells 0 3999"] * 20))
@@ -118,14 +118,14 @@ def full_disk(program, place, count):
     """A deck and a map on a disk that is full, and on one with room for a part of them: each is told, what was there stays, and nothing is left beside it."""
     small = os.path.join(place, "small")
     os.mkdir(small)
-    mounted = 'mount -t tmpfs -o size=16k none "$1" && cd "$1" || exit 9; printf "OLD\\n" >old; printf " ENTX 9\\n OUT 10(8)\\n HLT\\n END 0\\n" >f; head -c %d /dev/zero >fill; '
-    run = '"$0" run f --keep old --svg new </dev/null; echo $?; ls -A; cat old'
+    mounted = 'mount -t tmpfs -o size=16k none "$1" && cd "$1" || exit 9; printf "%%%%UNIT 16\\nOLD\\n" >old; printf " ENTX 9\\n OUT 10(8)\\n HLT\\n END 0\\n" >f; head -c %d /dev/zero >fill; '
+    run = '"$0" run f --keep old --svg new </dev/null; echo $?; ls -A; tail -n 1 old'
     for filled, refused, there in ((8192, (b"old", b"new"), [b"f", b"fill", b"old"]), (4096, (b"old",), [b"f", b"fill", b"new", b"old"])):
         command = mounted % filled + run
         ran = subprocess.run(["unshare", "--mount", "--map-root-user", "/bin/bash", "-c", command, program, small], capture_output=True, timeout=SECONDS)
         if ran.returncode == 9 or b"unshare" in ran.stderr:
             return
-        told = b"".join(b"mixrev: T3 write failed: %s\n" % name for name in refused)
+        told = b"".join(b"mixrev: T3 write failed: %s: No space left on device\n" % name for name in refused)
         count.same("a disk with %d bytes of 16384 filled" % filled, (ran.stderr, ran.stdout.splitlines()), (told, [b"2", *there, b"OLD"]))
 
 

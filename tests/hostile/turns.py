@@ -6,28 +6,28 @@ on how many bytes a call gives or takes. Each answer is worked out here, from th
 
 import itertools
 import os
+import pathlib
 
-from cuts import GREETED, HELLO
-from memory import FIRST
-from running import Count, Runner, bundle, folder, library, lines
-from streams import T2, T3
-from turned import COPY, COPIED, FAILED_LISTS, FAILED_READS, INSERTED, LISTED, PRINTED, REFUSED
+from tests.hostile.runner import BUNDLES, Count, Runner, bundle, folder, library, lines
+from tests.hostile.streams import T2, T3
+from tests.rows.faces import bytes_of
 
 ALL = 1 << 20  # more bytes than any of these runs reads or writes
 SIZES = (1, 7, ALL)
 
-# Bundles, what each writes, and its status: short commands; the first example; a program that
-# types; a program that reads cards, and its deck.
-BUNDLES = [
-    (bundle(lines(" ENTA 5", " STA 9", " HLT", " END 0"), lines("step 9", "back 1")),
-     lines("ran 3 to 0003 clock 13: halt", "back 1 to 0002 clock 3"), 0),
-    (bundle(FIRST, lines("step 4", "back 2", "show regs")),
-     lines("ran 4 to 0004 clock 14: halt", "back 2 to 0002 clock 2", "A  + 00 00 00 00 12", "X  + 00 00 00 00 00", "I1 + 00 00", "I2 + 00 00", "I3 + 00 00",
-           "I4 + 00 00", "I5 + 00 00", "I6 + 00 00", "J  + 00 00", "over off cmp E loc 0002 clock 2"), 0),
-    (bundle(HELLO, GREETED),
-     lines("ran 2 to 1002 clock 11: halt", "unit 19 place 0 blocks 0 output 1", "> " + "MIXAL HELLO WORLD".ljust(70), "back 2 to 1000 clock 0", "changes 0"), 0),
-    (bundle(lines(" IN 100(16)", " IN 100(16)", " END 0"), lines("step 2", "back 2", "back 1"), lines("%UNIT 16", "A CARD")),
-     lines("ran 1 to 0001 clock 1: fault M11 no block", "? C4 fewer changes than asked", "back 1 to 0000 clock 0"), 3)]
+
+def rows_of(kind):
+    """The rows of a kind in turned.rows, where `-` is nothing."""
+    lines = pathlib.Path(__file__).with_name("turned.rows").read_text().splitlines()
+    return [[None if field == "-" else bytes_of(field) for field in line.split("|")[1:]] for line in lines if line.startswith(f"{kind}|")]
+
+
+LISTED = [(source, int(status), listing) for source, status, listing in rows_of("listed")]
+FAILED_LISTS = [(*LISTED[int(row)][::2], *map(int, numbers)) for row, *numbers in rows_of("failed")]
+PRINTED, REFUSED = ([(*row[:3], row[3].decode().split(), *row[4:]) for row in rows_of(kind)] for kind in ("printed", "refused"))
+COPIED, INSERTED = PRINTED[3], LISTED[1][0]
+# The reads of INSERTED, of a byte each, that fail: one for each byte, and one that finds the end.
+FAILED_READS = (1, 2, 20, 24, 25)
 # A source, a deck and a script.
 PARTS = [b" HLT\n END\n", b"\n\n", b"step\n"]
 HALTED = lines("ran 1 to 0001 clock 10: halt")
@@ -90,8 +90,8 @@ class Turns:
 
 
 def bundles(turns):
-    for k, (text, output, status) in enumerate(BUNDLES):
-        name = "bundle %d" % k
+    for name, (source, deck, script, output) in BUNDLES["turns"].items():
+        text, status = bundle(source, script, deck), 3 if b"? " in output else 0
         # a read for each byte, and one that finds the end
         for call in range(1, len(text) + 2):
             turns.read_fails(name, text, (), call)
@@ -142,8 +142,8 @@ def printed(turns):
             turns.count.same("run %d, %d bytes a call" % (k, size), turns.run(b"", words(row), read_most=size, write_most=size)[0],
                              (row[4], told, 3 if told else 0))
     for k, (*row, told, status) in enumerate(REFUSED):
-        turns.count.same("refused run %d" % k, turns.run(b"", words(row))[0], (b"", told.replace(b"a.mixal", name.encode()), status))
-    copied = (COPY, b"%UNIT 16\nONE\n", b"TWO\n", ["--steps", "100"])
+        turns.count.same("refused run %d" % k, turns.run(b"", words(row))[0], (b"", told.replace(b"a.mixal", name.encode()), int(status)))
+    copied = (COPIED[0], b"%UNIT 16\nONE\n", b"TWO\n", ["--steps", "100"])
     files = [os.path.join(turns.place, file) for file in ("a.mixal", "deck", "cards")]
     turns.each_read_fails("a run", words(copied), zip(files, copied[:3]))
     turns.count.same("a run that is read byte by byte", turns.run(b"", words(copied), read_most=1)[0],

@@ -6,8 +6,7 @@ import os
 import random
 import sys
 
-sys.path.insert(0, os.path.dirname(os.path.abspath(__file__)))
-import client  # noqa: E402
+from tests.lsp import server as client
 
 program, count, seed = sys.argv[1], int(sys.argv[2]), int(sys.argv[3])
 top = os.path.dirname(os.path.dirname(os.path.dirname(os.path.abspath(__file__))))

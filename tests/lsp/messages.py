@@ -8,8 +8,7 @@ import string
 import subprocess
 import sys
 
-sys.path.insert(0, os.path.dirname(os.path.abspath(__file__)))
-import client  # noqa: E402
+from tests.lsp import server as client
 
 program, row = sys.argv[1], client.Rows(100)
 
@@ -66,7 +65,6 @@ row("bad parameters", codes(START, request(2, "textDocument/definition", {})), (
 
 for encoding in ("utf-8", "utf-16", "utf-32"):
     server = client.Client([program, "lsp"], encoding)
-    row("the encoding", server.abilities["capabilities"]["positionEncoding"], encoding)
     uri = "file:///t.mixal"
     server.open(uri, "* é😀\r\n2H   LDA  X\rX    CON  2F\n2H   JMP  2B\n     END  2B\n")
     count = client.units
@@ -76,6 +74,23 @@ for encoding in ("utf-8", "utf-16", "utf-32"):
     told = server.change(uri, 2, [{"range": {"start": {"line": 0, "character": 2}, "end": {"line": 0, "character": count("* é😀", encoding)}}, "text": "ok"}])
     row("the text after a change", told["diagnostics"], client.wanted(program, "* ok\r\n2H   LDA  X\rX    CON  2F\n2H   JMP  2B\n     END  2B\n", encoding))
     row("its end", server.end(), 0)
+
+server = client.Client([program, "lsp"], "utf-8")
+uri = "file:///c.mixal"
+server.open(uri, "é    NOP\n     END  0\n")
+within = {"start": {"line": 0, "character": 1}, "end": {"line": 0, "character": 2}}
+told = server.change(uri, 2, [{"range": within, "text": "A"}])
+row("no character is cut", told["diagnostics"], client.wanted(program, "A    NOP\n     END  0\n", "utf-8"))
+row("its end", server.end(), 0)
+
+server = client.Client([program, "lsp"])
+uri = "file:///l.mixal"
+server.open(uri, "     ORIG 100\n2H   LDA  =2B=\n2H   STA  0\n     END  100\n")
+for line, wanted in ((1, [(1, 0)]), (2, [(1, 11), (2, 0)])):
+    renamed = server.at("textDocument/rename", uri, {"line": line, "character": 0}, newName="7H")
+    starts = [edit["range"]["start"] for edit in renamed["changes"][uri]]
+    row("2B in a literal is the last 2H", [(at["line"], at["character"]) for at in starts], wanted)
+row("its end", server.end(), 0)
 
 server = client.Client([program, "lsp"])
 uri = "file:///r.mixal"
@@ -109,7 +124,7 @@ def labels(line, character):
     return [one["label"] for one in server.at("textDocument/completion", uri, {"line": line, "character": character})]
 
 
-def said(line, character):
+def hover(line, character):
     found = server.at("textDocument/hover", uri, {"line": line, "character": character})
     return found and found["contents"]["value"]
 
@@ -137,11 +152,10 @@ row("what completes OP", sorted(one["label"] for one in items), sorted([*every, 
 row("C, F and time", [one["label"] for one in items if not one["detail"].endswith(every.get(one["label"], ""))], [])
 row("what completes LOC", labels(1, 1), [])
 row("what completes ADDRESS", labels(1, 10), ["X", "Y"])
-row("a hover over OP", said(1, 5), "LDA: rA becomes V (C = 8, F = 5, 2u)")
-row("a hover over a pseudo-operation", said(0, 6), "EQU: the symbol in LOC gets the value of ADDRESS")
-row("a hover over a symbol", said(1, 10), "+ 00 00 00 00 05 = 5\nline 1: X    EQU  5")
-row("a hover over 2B", said(4, 11), "line 4: 2H   STA  Y")
-row("a hover over nothing", said(0, 10), None)
+row("a hover over OP", hover(1, 5), "LDA: rA becomes V (C = 8, F = 5, 2u)")
+row("a hover over a symbol", hover(1, 10), "+ 00 00 00 00 05 = 5\nline 1: X    EQU  5")
+row("a hover over 2B", hover(4, 11), "line 4: 2H   STA  Y")
+row("a hover over nothing", hover(0, 10), None)
 text = "X    EQU  1\nADD  Y\n     ALF     HELLO\n     ALF     HELLO WORLD\n     END\n"
 row("what mends other lines", actions(0, 0, text), [])
 (blank,) = actions(1, 1, text)

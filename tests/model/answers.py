@@ -1,36 +1,18 @@
-"""A request for one text, and its answer, each on one line as README.md says."""
+"""The answer for a single text, as README.md says."""
 
 from collections import namedtuple
 
-from expressions import address, expression, w_value
-from lines import read_line
-from texts import Fault
-from words import number_text
+from tests.model.expressions import address, expression, w_value
+from tests.model.lines import read_line
+from tests.model.texts import Fault
+from tests.model.words import number_text
 
-# Kind L, E, W or A; here a word; op (C, normal F) for A, else None; names with a word each; text
-# bytes.
+# Kind L, E, W or A; here a word; op (C, normal F) for A, else None; names with a word each; text bytes.
 Request = namedtuple("Request", "kind here op names text")
-
-
-def word_in(text):
-    return ("-", int(text[1:])) if text.startswith("-") else ("+", int(text))
 
 
 def written_bytes(text):
     return text.hex() or "-"
-
-
-def written_request(request):
-    op = "%d:%d" % request.op if request.op else "-"
-    names = ",".join(name.decode() + "=" + number_text(word) for name, word in request.names.items()) or "-"
-    return "%s %s %s %s %s" % (request.kind, number_text(request.here), op, names, written_bytes(request.text))
-
-
-def request_in(line):
-    kind, here, op, names, text = line.split(" ")
-    pairs = [name.split("=") for name in names.split(",")] if names != "-" else []
-    return Request(kind, word_in(here), tuple(int(part) for part in op.split(":")) if op != "-" else None,
-                   {name.encode(): word_in(word) for name, word in pairs}, bytes.fromhex(text.replace("-", "")))
 
 
 def of_line(line):

@@ -4,11 +4,11 @@ each word's place; the second makes the words, all names being known."""
 from bisect import bisect_right
 from collections import namedtuple
 
-from expressions import address, w_value
-from lines import read_line
-from pieces import lines_of
-from texts import Fault
-from words import ZERO, joined, number
+from tests.model.expressions import address, w_value
+from tests.model.lines import read_line
+from tests.model.pieces import lines_of
+from tests.model.texts import Fault
+from tests.model.words import ZERO, joined, number
 
 SOURCE_BYTES = 1048576
 SOURCE_LINES = 20000

@@ -1,12 +1,12 @@
 """A bundle: source, deck and script in one input; what the program writes for it, and its status."""
 
-import assembler
-from commands import Session
-from deck import read_deck
-from listing import listing
-from machine import World
-from pieces import lines_of
-from texts import Fault
+from tests.model import assembler
+from tests.model.commands import Session
+from tests.model.deck import read_deck
+from tests.model.listing import listing
+from tests.model.world import World
+from tests.model.pieces import lines_of
+from tests.model.texts import Fault
 
 BUNDLE_BYTES = 41943040
 SCRIPT_BYTES = 1048576

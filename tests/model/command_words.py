@@ -1,11 +1,11 @@
 """The words of a command: numbers, expressions, W-values, places, lines, conditions. All of them are read before any is tested for its range."""
 
-from expressions import expression, w_value
-from operations import NAMES
-from texts import Fault
-from transfers import Conflicts
-from units import UNITS
-from words import number
+from tests.model.expressions import expression, w_value
+from tests.model.operations import NAMES
+from tests.model.texts import Fault
+from tests.model.transfers import Conflicts
+from tests.model.units import UNITS
+from tests.model.words import number
 
 MOST = 8  # conditions of one command
 OPERANDS = (b"CELL", b"LOC", b"UNIT")  # are followed by a word, whichever it is

@@ -1,12 +1,12 @@
 """The commands and their replies. The state is the loaded machine, the list of changes that stand, and those that `back` took away."""
 
-import history
-from command_words import condition, conditions_in_range, count, digits_of, expression_in, line_place, place_in_range, w_value_in
-from machine import do, replay
-from operations import NAMES
-from pieces import words_of
-from show import show
-from texts import Fault
+from tests.model import history
+from tests.model.command_words import condition, conditions_in_range, count, digits_of, expression_in, line_place, place_in_range, w_value_in
+from tests.model.world import do, replay
+from tests.model.operations import NAMES
+from tests.model.pieces import words_of
+from tests.model.show import show
+from tests.model.texts import Fault
 
 STEPS = 1000000  # the most that one command does
 

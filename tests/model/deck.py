@@ -2,10 +2,10 @@
 
 import re
 
-from pieces import is_blank, lines_of, words_of
-from texts import Fault
-from units import EMPTY, KINDS, MOST, no_units
-from words import code_of, joined
+from tests.model.pieces import is_blank, lines_of, words_of
+from tests.model.texts import Fault
+from tests.model.units import EMPTY, KINDS, MOST, no_units
+from tests.model.words import code_of, joined
 
 DECK_BYTES = 33554432
 HEADER = re.compile(rb"%UNIT[ \t]+([0-9]{1,2})(?:[ \t]+DELAY[ \t]+([0-9]{1,18}))?[ \t]*", re.IGNORECASE)

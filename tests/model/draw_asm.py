@@ -1,11 +1,8 @@
 """Random sources for the whole assembler, towards its edges and faults."""
 
-import random
-
-import draw_request as texts
-from draw import huge_source
-from draw_text import WRONG_ENDS, wrong_line
-from lines import OPERATIONS
+from tests.model import draw_text as texts
+from tests.model.draw_text import some, with_ends, wrong_line
+from tests.model.lines import OPERATIONS
 
 MACHINE = [name for name, op in OPERATIONS.items() if op[0] == "machine"]
 COMMON = b"ENTA LDA STA JMP LD1 ENT1 ADD CMPA JNE STZ HLT NOP MOVE OUT STJ".split()
@@ -15,7 +12,6 @@ EDGES = [0, 1, 63, 64, 4000, 4094, 4095, 4095, 4096, 4096, 4097, 5000, 8192, 262
 PLACES = b"0 0 0 0 1 1 2 5 10 30 100 100 100 105 1000 1000 3990 3990 3996 3998 3999 4000 -0 *-1 *-1 *-2 *+1 *+3 *".split()
 WINDOWS = [(0, 40), (95, 130), (995, 1020), (3980, 3999)]
 FIELDS = b"0:5 1:5 0:2 3:3 4:4 5:5 1:1 0:0 4:5 1:3 5 8 36".split()
-ENDS = [b"\n"] * 12 + [b"\r\n"] * 3
 AT_THE_END = b"""ORIG 4000/ORIG 3999/ORIG 3998/LDA =Q=/LDA =1(9)=/LDA =7=/JMP 7F/JMP NOWHERE/LDA =NOWHERE=/JMP 7F/JMP NOWHERE2/LDA =*=""".split(b"/")
 
 
@@ -28,7 +24,7 @@ class Draft:
         self.own = []  # the dH of the line that is drawn, which is none of its dB
 
     def blanks(self):
-        return self.r.choice(texts.BLANKS)
+        return some(self.r, "blank")
 
     def say(self, loc, op, address=b"", remark=True):
         """A line, in one of the forms that it may have."""
@@ -201,7 +197,7 @@ def source(r):
     if not (bold and r.randrange(4) == 0):
         draft.end()
     elif r.randrange(6):
-        lines.append(r.choice(WRONG_ENDS))
+        lines.append(some(r, "wrong_end"))
     if bold and r.randrange(2):
         for _ in range(r.choice((1, 1, 2, 3))):
             at = r.choice((r.randrange(len(lines) + 1), max(len(lines) - 1, 0)))
@@ -214,29 +210,20 @@ def source(r):
     return lines
 
 
-def joined(r, lines):
-    text = b"".join(line + (r.choice(ENDS) if r.randrange(4) == 0 else b"\n") for line in lines)
-    return text.rstrip(b"\r\n") if r.randrange(20) == 0 else text
+def text_of(r):
+    """A source, seldom cut off somewhere."""
+    text = with_ends(r, texts.joined(source(r)))
+    text = text if r.randrange(20) else text.rstrip(b"\r\n")
+    return text if r.randrange(40) else text[:r.randrange(len(text) + 1)]
 
 
-def numbered_source(seed, k):
-    """Source K of a seed, whichever were drawn before it."""
-    r = random.Random("%s/%d" % (seed, k))
-    if k % 500 == 499:
-        return huge_source(r, k // 500)
-    text = joined(r, source(r))
-    if r.randrange(40) == 0:
-        return text[:r.randrange(len(text) + 1)]
-    return text
-
-
-def numbered(seed, k):
-    """The same source in a bundle, whose script shows the cells and where the program begins."""
-    text = numbered_source(seed, k)
-    r = random.Random("%s/%d/script" % (seed, k))
+def shown(text, everything):
+    """A source in a bundle, whose script shows the cells and where the program begins."""
     if not text.endswith(b"\n"):
         text += b"\n"
-    shows = [b"show regs"] + [b"show cells %d %d" % window for window in WINDOWS]
-    if r.randrange(100) == 0 or k % 500 == 499:
-        shows.append(b"show cells 0 3999")
+    shows = [b"show regs"] + [b"show cells %d %d" % window for window in [*WINDOWS, *[(0, 3999)] * everything]]
     return text + b"%SCRIPT\n" + b"".join(line + b"\n" for line in shows)
+
+
+def bundle(r):
+    return shown(text_of(r), r.randrange(100) == 0)

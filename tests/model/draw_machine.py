@@ -1,6 +1,6 @@
 """Scenes of a script that try an instruction or a few: a state towards its edges, a step, and a look at the result."""
 
-from words import FIELDS, FULL, joined
+from tests.model.words import FIELDS, FULL, joined
 
 TOP = FULL - 1
 EDGES = [0, 0, 1, 2, 63, 64, 65, 4095, 4096, 4097, 262143, 262144, 2**29, TOP // 2, TOP // 2 + 1, TOP - 1, TOP]

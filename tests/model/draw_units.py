@@ -2,21 +2,11 @@
 
 The source is END alone and every instruction is put by `set cell`, so a program without the whole assembler can be compared too."""
 
-import random
-
-from draw import full_lists
-from draw_machine import Scene, any_word
-from draw_text import header_line, joined, medium_lines, word_text, written_line
-from units import KINDS
+from tests.model.draw_machine import Scene, any_word
+from tests.model.draw_text import header_line, joined, medium_lines, some, with_ends, word_text, written_line
+from tests.model.units import KINDS
 
 NO_CHARACTERS = [b"?", b'"', b"\xff", b"\x00", b"!", b"_", b"\r", b"%", b"\x0b"]
-ENDS = [b"\n"] * 14 + [b"\r\n"] * 2
-DELAYS = b"0 1 2 3 5 10 10 30 100 1000 000000000000000007 999999999999999999 999999999999999998 500000000000000000".split()
-WRONG_HEADERS = b"""%UNIT/%UNIT 21/%UNIT 99/%UNIT 021/%UNIT 005/%UNIT 100/%UNIT -1/%UNIT x/%UNIT0/%/%%UNIT 0/%DEVICES/%SCRIPT /%UNIT 5 5/%UNIT 5 delay
-%UNIT 5 delay x/%UNIT 5 delay -1/%UNIT 5 delay 1000000000000000000/%UNIT 5 delay 5 5/%UNIT 5delay 5/%UNIT 5 delay5/%UNIT 5 DELAYS 5/%UNITS 5
-%UNIT 5 5 delay/%UNIT +5/%UNIT 5;/%UNIT\x0b5/%UNIT 5 delay 0000000000000000005/% UNIT 5/%UNIT 19 delay/%unit 17/%UNIT 18/%UNIT 22 delay 5""".replace(b"\n", b"/").split(b"/")
-WRONG_WORDS = b"""0000000007 +000000007 +00000000070 +6400000000 +0000000064 -0064000000 +00-0000007 ++000000007 +00000x0007 + - x 7 +00:0000007
-    +0000000007+0000000007 *0000000007 +0000_00007 %UNIT +0000000007, \xff""".split()
 
 
 def contents(r, unit):
@@ -35,7 +25,7 @@ def deck(r, wrong):
         unit = r.choice((r.randrange(8), r.randrange(8, 16), r.randrange(16, 21), r.choice((16, 18, 19, 20))))
         if unit in units and not (wrong and r.randrange(4) == 0):
             continue
-        delay = r.choice(DELAYS) if r.randrange(2) or unit in (17, 18) else None
+        delay = some(r, "delay") if r.randrange(2) or unit in (17, 18) else None
         lines += [header_line(r, unit, delay)] + contents(r, unit)
         units.append(unit)
     if wrong:
@@ -51,11 +41,11 @@ def spoil(r, lines):
         at = min(r.choice(headers) + r.choice((0, 1, 1, 2)), len(lines))
     kind = r.randrange(12)
     if kind < 2:
-        lines.insert(at, r.choice(WRONG_HEADERS))
+        lines.insert(at, some(r, "wrong_header"))
     elif kind < 3 and headers:
         lines.insert(at, lines[r.choice(headers)])
     elif kind < 5:
-        lines.insert(at, r.choice(WRONG_WORDS) if r.randrange(2) else word_text(r))
+        lines.insert(at, some(r, "wrong_deck_word") if r.randrange(2) else word_text(r))
     elif kind < 7 and headers:
         at = r.choice(headers) + 1
         lines.insert(at, written_line(r, r.choice((70, 80))) + r.choice((b"X", b"?", b"XXXXXXXXXXX", b"?" * 80)))
@@ -199,21 +189,12 @@ def script(r, units):
     return [line.encode() for line in scene.lines]
 
 
-def with_ends(r, lines):
-    return joined(r, lines, 5, ENDS)
-
-
-def numbered(seed, k):
-    """Bundle K of a seed, whichever were drawn before it."""
-    r = random.Random("%s/%d" % (seed, k))
-    if k % 100 == 99:
-        text, lines = full_lists(r, k // 100)
-        return b" END 0\n%DEVICES\n" + text + b"%SCRIPT\n" + b"".join(line + b"\n" for line in lines)
+def bundle(r):
     wrong = r.randrange(3) == 0
     lines, units = deck(r, wrong)
-    text = with_ends(r, lines)
+    text = with_ends(r, joined(lines))
     if wrong and r.randrange(12) == 0:
         text = text[:r.randrange(len(text) + 1)]
     if text and not text.endswith(b"\n"):
         text += b"\n"
-    return b" END 0\n" + (b"%DEVICES\n" + text if text or r.randrange(2) else b"") + b"%SCRIPT\n" + with_ends(r, script(r, units))
+    return b" END 0\n" + (b"%DEVICES\n" + text if text or r.randrange(2) else b"") + b"%SCRIPT\n" + with_ends(r, joined(script(r, units)))

@@ -7,8 +7,8 @@ that is defined; `here` is the word for `*`."""
 import re
 from collections import namedtuple
 
-from texts import Fault
-from words import FIELDS, FULL, ZERO, add, div, mul, negated, number, put_field, sub
+from tests.model.texts import Fault
+from tests.model.words import FIELDS, FULL, ZERO, add, div, mul, negated, number, put_field, sub
 
 RUN = re.compile(rb"[A-Za-z0-9]*")
 DIGITS = 10

@@ -2,15 +2,15 @@
 
 All of it is told from worlds made again from the loaded machine, and from what two of them differ in."""
 
-from command_words import condition, conditions_in_range, digits_of, one_condition
-from lines import text_of
-from listing import source_of, source_text
-from machine import do, replay
-from operations import FIRST_BYTE, NAMES
-from texts import Fault
-from transfers import conflicts
-from units import UNITS
-from words import written
+from tests.model.command_words import condition, conditions_in_range, digits_of, one_condition
+from tests.model.lines import text_of
+from tests.model.listing import source_of, source_text
+from tests.model.world import do, replay
+from tests.model.operations import FIRST_BYTE, NAMES
+from tests.model.texts import Fault
+from tests.model.transfers import conflicts
+from tests.model.units import UNITS
+from tests.model.words import written
 
 
 # What differs between two worlds

@@ -2,11 +2,11 @@
 
 from collections import namedtuple
 
-from expressions import is_local, is_symbol
-from operations import FLOATING, NEEDS_FIELD, NEEDS_NO_ADDRESS, TABLE
-from texts import Fault
-from units import UNITS
-from words import FIELDS, code_of, instruction, joined, number_text
+from tests.model.expressions import is_local, is_symbol
+from tests.model.operations import FLOATING, NEEDS_FIELD, NEEDS_NO_ADDRESS, TABLE
+from tests.model.texts import Fault
+from tests.model.units import UNITS
+from tests.model.words import FIELDS, code_of, instruction, joined, number_text
 
 # LOC is None, ("name", symbol) or ("local", d). OP is ("machine", C, normal F), ("equ",),
 # ("orig",), ("con",), ("end",) or ("alf", word), which has no ADDRESS.

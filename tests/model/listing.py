@@ -1,9 +1,9 @@
 """The listing: each line of a source with its place and its finished word, and the table of symbols; and the source beside the machine."""
 
-from assembler import assemble
-from lines import text_of
-from texts import Fault
-from words import written
+from tests.model.assembler import assemble
+from tests.model.lines import text_of
+from tests.model.texts import Fault
+from tests.model.words import written
 
 
 def listing(source):

@@ -2,7 +2,7 @@
 
 from collections import Counter, namedtuple
 
-from texts import Fault, rows
+from tests.model.texts import Fault, rows
 
 # The register is the one that the operation names, if it names one. The kind is what operations on
 # several registers share: LD for LDA, LD1 and so on. Time is in u; a transfer may have to wait, and

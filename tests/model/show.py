@@ -1,12 +1,12 @@
 """The command `show`: the machine as it is, values and the source beside it; the past is told by history.py."""
 
-from command_words import cells_between, digits_of, unit_in_range, w_value_in
-from history import on_off, show_past
-from listing import code_line, symbols_of
-from operations import FIRST_BYTE, NAMES
-from texts import Fault
-from units import characters, is_empty, shown
-from words import ZERO, number_text, written
+from tests.model.command_words import cells_between, digits_of, unit_in_range, w_value_in
+from tests.model.history import on_off, show_past
+from tests.model.listing import code_line, symbols_of
+from tests.model.operations import FIRST_BYTE, NAMES
+from tests.model.texts import Fault
+from tests.model.units import characters, is_empty, shown
+from tests.model.words import ZERO, number_text, written
 
 
 def show(session, words):

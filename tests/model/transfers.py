@@ -3,10 +3,10 @@
 A transfer is an IN or OUT that was done. It is under way for a later change that begins before the transfer ends, while no later IN, OUT or
 IOC on its unit was done. Which cells a change reads and writes is not worked out here: the machine is watched while it does the change."""
 
-from machine import World, do
-from operations import operation
-from units import KINDS
-from words import instruction
+from tests.model.world import World, do
+from tests.model.operations import operation
+from tests.model.units import KINDS
+from tests.model.words import instruction
 
 
 class Cells(dict):

@@ -5,8 +5,8 @@ busy unit begins at that time."""
 
 from collections import namedtuple
 
-from texts import Fault
-from words import ZERO, char_of, bytes_of, number
+from tests.model.texts import Fault
+from tests.model.words import ZERO, char_of, bytes_of, number
 
 MOST = 1000  # blocks or rows of a list
 UNITS = 21

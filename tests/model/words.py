@@ -1,6 +1,6 @@
 """MIX words, their fields and their arithmetic, with bytes of 0 to 63 (1.3.1)."""
 
-from texts import rows
+from tests.model.texts import rows
 
 # A word is a pair (sign, magnitude): the sign "+" or "-", the magnitude below 64^5. So +0 and -0
 # are two words.

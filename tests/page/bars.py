@@ -8,7 +8,7 @@ from uses import TOP
 SHOWN = """return [...document.querySelectorAll('#bars [data-cell]')].map(g => [Number(g.dataset.cell), (g.querySelector('.ink') || { textContent: '' }).textContent,
     Number(g.querySelector('rect').getAttribute('height')), g.querySelector('rect').getAttribute('class')])"""
 ARROWS = "return [...document.querySelectorAll('#bars [data-arrow]')].map(g => [g.dataset.arrow, g.querySelector('text').getAttribute('x')])"
-PLACES = "return [...document.querySelectorAll('#bars [data-cell] .soft')].map(t => [t.textContent, t.getAttribute('x')])"
+PLACES = "return [...document.querySelectorAll('#bars [data-cell]')].map(g => [g.dataset.cell.padStart(4, '0'), g.querySelector('.ink, .soft').getAttribute('x')])"
 SAID = "return ['title', 'desc'].map(name => document.querySelector(`#bars svg ${name}`).textContent)"
 SAVED = """const { createObjectURL } = URL; URL.createObjectURL = (blob) => { blob.text().then((text) => { window.savedText = text; }); return createObjectURL.call(URL, blob); };
     const { click } = HTMLAnchorElement.prototype; HTMLAnchorElement.prototype.click = function () { window.savedName = this.download; click.call(this); };"""
@@ -33,8 +33,7 @@ START ST1 TABLE+4(1:1)
 
 
 def insertions(keys):
-    """Straight insertion from the right, as the book describes it: of each write that alters a key its number among the changes, its place, the key
-    before it, and all keys then; and the number of all changes. Each line of the program that is executed is a change."""
+    """Straight insertion from the right, as in the book: of each write that alters a key its change, its place, the key before it, and all keys then; all changes."""
     keys, found, changes = list(keys), [], 2  # ENT3, ENT1
 
     def write(at, key):
@@ -83,8 +82,7 @@ def sort(page, native, count):
         heights = [height for _, _, height, _ in shown]
         if any(abs(height / max(heights) - key / max(keys)) > 0.01 for height, key in zip(heights, keys)):
             count.row(f"bars: heights as the keys at {moment}", False, (heights, keys))
-        # `LAST,1` and `LAST,2`, LAST being the cell behind the keys: the first instructions that
-        # use a key by these registers.
+        # `LAST,1` and `LAST,2`, LAST being behind the keys, are the first to use a key by these registers.
         numbers, arrows = index_numbers(page), dict(page.script(ARROWS))
         places = {int(cell): float(x) for cell, x in page.script(PLACES)}
         for name in ("I1", "I2"):
@@ -110,8 +108,7 @@ def sort(page, native, count):
 def strip(page, native, count):
     """The strip: the keys at moments of the whole sort; a click on one goes there; no call of the engine as long as the changes are the same."""
     open_sort(page)
-    page.click("run")
-    page.click("bars-strip")
+    page.click("run", "bars-strip")
     page.wait(lambda: page.all("#strip svg"))
     wanted, total = insertions(KEYS)
     moments = [int(total * at / 59 + 0.5) for at in range(60)]
@@ -140,16 +137,17 @@ def strip(page, native, count):
     page.script("""const svg = document.querySelector('#strip svg'), b = svg.getBoundingClientRect();
         svg.dispatchEvent(new MouseEvent('click', { bubbles: true, clientX: b.left + b.width * 20.5 / 60, clientY: b.top + 20 }));""")
     page.idle()
-    count.same("strip: a click goes there", (page.value("moment"), [int(told) for _, told, _, _ in page.script(SHOWN)]), (str(moments[20]), columns[20]))
+    count.same("strip: a click goes there", page.value("moment"), str(moments[20]))
     count.same("strip: as one command", page.commands(), ["run 1000000", f"goto {moments[20]}"])
     saved = page.save()
     count.row("strip: kept in the file", b"\n* bars: KEY+1 KEY+N number strip\n" in saved, saved[-300:])
     root = tree.fromstring(page.copied("bars-copy"))
-    pictures = root.findall("{http://www.w3.org/2000/svg}svg")
-    heights = [float(picture.get("height")) for picture in pictures]
-    count.same("strip: in the file below the bars", [float(picture.get("y")) for picture in pictures], [0, heights[0]])
-    widest = max(float(picture.get("width")) for picture in pictures)
-    count.same("strip: the file is as large as both", [float(size) for size in root.get("viewBox").split()], [0, 0, widest, sum(heights)])
+    titles = [title.text for title in root.iter("{http://www.w3.org/2000/svg}title")]
+    count.same("strip: the file has the strip, which is shown, and no bars", [title.rpartition(", ")[2] for title in titles], ["at 60 moments"])
+    count.same("strip: the file is as large", [float(size) for size in root.get("viewBox").split()], [0, 0, width, high])
+    page.tab("bars")
+    page.wait(lambda: page.script(SHOWN)[0][1])
+    count.same("strip: the bars of that moment", [int(told) for _, told, _, _ in page.script(SHOWN)], columns[20])
 
 
 def fields(page, native, count):
@@ -157,7 +155,7 @@ def fields(page, native, count):
     page.lesson(0)
     page.put("text", FIELDS)
     count.same("bars: not shown unless asked for", page.script("return document.getElementById('bars-box').open"), False)
-    page.press_button(page.all("#bars-box summary")[0])
+    page.tab("bars")
     page.put("bars-from", "TABLE")
     page.put("bars-to", "TABLE+4")
     word = [64**4 + 2 * 64**2 + 65, -7, 8 * 64**4 + 5 * 64**3 + 13 * 64**2 + 13 * 64 + 16, 3 * 64**4, 0]
@@ -178,11 +176,9 @@ def fields(page, native, count):
         page.put("bars-field", wrong)
         count.same(f"bars: {wrong} is no field", (page.one("bars-field").get_attribute("aria-invalid"), told()), ("true", before))
     page.choose("bars-by", "number")
-    page.click("step")
-    page.click("step")
+    page.click("step", "step")
     count.same("bars: an arrow", dict(page.script(ARROWS)), {"rI2": dict(page.script(PLACES))["0002"]})
-    for _ in range(3):
-        page.click("step")
+    page.click(*["step"] * 3)
     hollow = page.script("return [...document.querySelectorAll('#bars .next')].map(r => [Number(r.parentNode.dataset.cell), r.getAttribute('fill')])")
     count.same("bars: what the next step will write is hollow", (hollow, "4: 0 (will be -9)" in page.script(SAID)[1]), ([[4, "none"]], True))
     page.click("step")
@@ -208,8 +204,7 @@ def as_many_calls(page, count, shown):
         page.script(f"document.getElementById('{shown}-box').open = arguments[0]", is_open)
         page.press()
         page.script("window.calls = 0")
-        for name in ("step", "step", "back"):
-            page.click(name)
+        page.click("step", "step", "back")
         page.slide(1, ends=False)
         page.slide(1)
         calls.append(page.script("return window.calls"))
@@ -240,7 +235,7 @@ def bars_kept(page, native, count):
     count.row("bars: kept in the file", b"\n* bars: KEY+1 KEY+N 4:5\n" in saved, saved[-300:])
     page.lesson(0)
     count.same("bars: another program begins without them", page.script("return document.getElementById('bars-box').open"), False)
-    page.go(link_of(page, saved))
+    page.follow(link_of(page, saved))
     count.same("bars: the same by a link", page.script(SHOWN), shown)
     page.tap(page.all("#bars [data-cell='1003'] rect")[0])
     count.same("bars: a click on one asks who wrote it", page.text("who-title"), "Who wrote cell 1003?")

@@ -3,6 +3,7 @@ import pathlib
 import tempfile
 import time
 
+from native import BRING, COPIED, EDITOR, IDLE, LOG, PASTE, PUT, READ, SLIDE, STAGE
 from selenium import webdriver
 from selenium.common.exceptions import NoAlertPresentException
 from selenium.webdriver.chrome.options import Options
@@ -13,20 +14,7 @@ from selenium.webdriver.support.ui import Select
 
 SECONDS = 120  # in which whatever is asked for has to be done
 
-IDLE = "return !!document.querySelector('main') && document.querySelector('main').getAttribute('aria-busy') === 'false'"
-LOG = """return [...document.querySelectorAll('#log p')].map(p => [p.textContent, p.nextElementSibling.textContent])"""
-SLIDE = """const s = document.getElementById('slider'); s.value = arguments[0];
-s.dispatchEvent(new Event('input', {bubbles: true})); if (arguments[1]) s.dispatchEvent(new Event('change', {bubbles: true}));"""
-READ = """window.isRead = false; const { text } = Blob.prototype;
-Blob.prototype.text = async function () { Blob.prototype.text = text; const read = await text.call(this); setTimeout(() => { window.isRead = true; }); return read; };"""
-EDITOR = "const cm = document.querySelector('#listing .CodeMirror').CodeMirror; "
-PASTE = EDITOR + """const [text, old] = [arguments[0], cm.getValue()]; const least = Math.min(text.length, old.length);
-let [head, tail] = [0, 0]; while (head < least && text[head] === old[head]) head += 1;
-while (tail < least - head && text[text.length - 1 - tail] === old[old.length - 1 - tail]) tail += 1;
-cm.focus(); cm.replaceRange(text.slice(head, text.length - tail), cm.posFromIndex(head), cm.posFromIndex(old.length - tail), 'paste');"""
-COPIED = """window.copiedText = null; window.addEventListener('copy', ({ clipboardData }) => { window.copiedText = clipboardData.getData('text/plain'); }, { once: true })"""
 EXAMPLES = sorted((pathlib.Path(__file__).resolve().parents[2] / "examples").glob("*.mixal"))
-PUT = """const e = document.getElementById(arguments[0]); e.focus(); e.value = arguments[1]; e.dispatchEvent(new Event('input', {bubbles: true}));"""
 
 
 class Page:
@@ -70,6 +58,13 @@ class Page:
         self.driver.get(address if "#" in address else f"{address}#no-tour")
         self.idle()
 
+    def follow(self, link):
+        """Opens a link, and does the commands that it brings."""
+        self.go(link)
+        if self.one("link-all").is_displayed():
+            self.one("link-all").click()
+        self.idle()
+
     def leave(self):
         """Says yes where the browser or the page asks whether the program may be left."""
         try:
@@ -109,12 +104,17 @@ class Page:
         self.script(EDITOR + "cm.focus(); cm.setCursor(arguments[0] - 1, arguments[1])", line, letter)
 
     def points(self):
-        """The lines with a breakpoint, of those that are drawn."""
         return [int(row.text) for row in self.all("#listing .line button[aria-pressed='true']")]
 
-    def click(self, name):
-        self.one(name).click()
-        self.idle()
+    def brought(self, name):
+        """What has this id; what is in the menu or in a tab is brought into view first, as a person does."""
+        self.script(BRING, name)
+        return self.one(name)
+
+    def click(self, *names):
+        for name in names:
+            self.brought(name).click()
+            self.idle()
 
     def new(self):
         """Begins a program of one's own."""
@@ -135,9 +135,13 @@ class Page:
         self.idle()
 
     def tab(self, name):
-        """Shows a part of the page, where the window is too narrow for all."""
-        tab = self.driver.find_element(By.CSS_SELECTOR, f"#tabs [data-tab={name}]")
+        """Shows a part of the page, where the window is too narrow for all, or one of those that share the stage."""
+        tab = self.driver.find_element(By.CSS_SELECTOR, f"#tabs [data-tab={'stage' if name in STAGE else name}]")
         if tab.is_displayed():
+            tab.click()
+        if name in STAGE:
+            tab = self.driver.find_element(By.CSS_SELECTOR, f"#stage-tabs [data-box={STAGE[name]}]:not(#bars-strip)")
+            self.script("arguments[0].scrollIntoView({ block: 'nearest' })", tab)
             tab.click()
 
     def press_button(self, button):
@@ -187,7 +191,8 @@ class Page:
         return self.script("return [...document.querySelectorAll('#lessons optgroup option')].sort((a, b) => a.value - b.value).map(o => o.textContent)")
 
     def say(self, command):
-        """Types a command, and once more where the page asks for that."""
+        """Types a command, and once more where the page asks for that. The stage shows then what it showed before."""
+        before = self.script("return [...document.querySelectorAll('#picture > details[open]')].map((box) => box.id)[0]")
         self.tab("talk")
         self.one("command").clear()
         self.one("command").send_keys(command, Keys.ENTER)
@@ -195,6 +200,7 @@ class Page:
         if self.text("command-note").startswith("This drops"):
             self.one("command").send_keys(Keys.ENTER)
             self.idle()
+        self.script("if (arguments[0]) document.getElementById(arguments[0]).open = true", before)
 
     def told(self):
         """What the status says was done."""
@@ -216,8 +222,9 @@ class Page:
 
     def state(self):
         """All that is shown of the machine."""
-        return self.script("""window.dispatchEvent(new Event('beforeprint')); return ['register-rows', 'flags', 'papers', 'unit-list', 'moment'].map(id => document.getElementById(id).innerText ||
-            document.getElementById(id).value).concat([...document.querySelectorAll('#printed tr')].map(line => line.children[3].textContent))""")
+        return self.script("""window.dispatchEvent(new Event('beforeprint')); const [registers, flags, ...boxes] = ['register-rows', 'flags', 'papers', 'unit-list'].map(id => document.getElementById(id));
+            const texts = [...flags.children].flatMap(flag => [...flag.children].map(part => part.textContent));
+            return [registers.textContent, texts.join('\\n'), ...boxes.map(box => box.textContent), document.getElementById('moment').value].concat([...document.querySelectorAll('#printed tr')].map(line => line.children[3].textContent))""")
 
     def save(self):
         """The file that is saved."""

@@ -25,13 +25,13 @@ FORMS = (
     (r"line \d+: (M\d+ .+) at (\d+) clock .*", "", "", r"at \2, by the fault \1."),
     (r"line \d+: error: at (\d+) clock \d+ (cell .+)", "Case", "", r"conflict at \1: \2."),
 )
+LETTERS = " ABCDEFGHI?JKLMNOPQR??STUVWXYZ0123456789"  # by their codes, as far as a word of them is told as text
 GRADED = ("00", "01", "04", "06", "11", "15", "25", "34", "53", "59")  # lessons whose exercises differ in what they ask
 POINTS = "return [...document.querySelectorAll('#listing .line button[aria-pressed=true]')].map((e) => e.textContent)"
 
 
 def made():
-    """Of each exercise its cases and programs; in a process alone, since names of modules clash."""
-    sys.path.insert(0, str(TOP / "course"))
+    """Of each exercise its cases and programs; in a process alone."""
     import variants
     from running import COURSE
 
@@ -103,13 +103,23 @@ def reason_of(native, text, case):
     return "" if ran.stdout.startswith("ok") else ran.stdout.partition(": ")[2].strip() or ran.stderr
 
 
+def worded(text):
+    """A number as the page tells it: one from 10,000,000 on by its letters, otherwise by its sign and bytes."""
+    if not re.fullmatch(r"-?\d+", text) or abs(int(text)) < 10_000_000:
+        return text
+    parts = [abs(int(text)) // 64**place % 64 for place in (4, 3, 2, 1, 0)]
+    letters = "".join(LETTERS[part:part + 1] or "?" for part in parts)
+    return f"“{letters.rstrip()}”" if text[0] != "-" and "?" not in letters else " ".join(["-" if text[0] == "-" else "+", *(f"{part:02d}" for part in parts)])
+
+
 def is_same(told, reason):
     """Whether the page says of a case what grade/case says."""
     first, found, end = told[0], told[2] if len(told) == 4 else "", told[-1]
     for form, *parts in FORMS:
         if ran := re.fullmatch(form, reason):
             wanted = [ran.expand(part) for part in parts]
-            return wanted[0] in first and wanted[1] in found.replace("#", "?") and wanted[2] in end
+            held = wanted[1] if "row" in wanted[0] else worded(wanted[1])
+            return wanted[0] in first and held in found.replace("#", "?") and wanted[2] in end
     return False
 
 
@@ -169,8 +179,7 @@ def opened(page, native, count):
     count.same("opened: told", (page.told(), page.one("check-open").is_displayed()), ("The program has the data of this case, and begins anew.", False))
     count.same("opened: the focus", page.script("return document.activeElement.id"), "step")
     count.same("opened: the breakpoint goes with its line", [text.splitlines()[int(line) - 1].split()[0] for line in page.script(POINTS)], ["SWAP"])
-    for _ in range(4):
-        page.click("run")
+    page.click(*["run"] * 4)
     page.say("show values TABLE+1 TABLE+1")
     count.same("opened: what was told is there", page.log()[-1][1][21:33].strip(), told[3])
     count.same("opened: it is told still", page.script(SHOWN), told)
@@ -181,8 +190,7 @@ def opened(page, native, count):
     cases, answer = own("25_buffers")
     page.lesson("25_buffers")
     page.put("text", answer.replace("ENN3 -16,3", "ENN3 0,3"))
-    page.click("check-run")
-    page.click("check-open")
+    page.click("check-run", "check-open")
     head, *cards = cases[0]["deck"].splitlines()
     count.same("opened: cards and deck", (page.value("deck"), page.value("cards").splitlines()), (f"{head}\n", cards))
     page.size(400, 800)

@@ -1,5 +1,4 @@
-"""Runs that stop at a step which conflicts with a transfer under way, where the box asks for it. The clocks are worked out by hand: an OUT takes 1 u, and
-its unit is busy for the delay after it."""
+"""Runs that stop at a step which conflicts with a transfer. The clocks are worked out by hand: an OUT takes 1 u, then its unit is busy for the delay."""
 from uses import kept, natively
 
 # The OUT is over at 1, so the line is printed until 51. Change 4 begins at 3 and alters a cell of
@@ -25,8 +24,7 @@ MARKED = """const edge = (e) => e.getBoundingClientRect(); const [note, box] = [
     return [...document.querySelectorAll('#cell-rows .conflict')].map((row) => [Number(row.dataset.cell), note.textContent.split(': ').pop(),
     row.querySelector('.unseen').textContent.includes('conflict'), edge(note).height > 0 && edge(row).height > 0 && edge(row.lastChild).right <= edge(box).right])"""
 NAMED = "return document.getElementById('conflicts').labels[0].textContent.trim()"
-# A button, the command that is kept, how the status begins, and the cell that is marked with its
-# use.
+# A button, the command that is kept, how the status begins, and the cell that is marked with its use.
 WAYS = [
     ("run", "run 4", FIRST, TWO[0]), ("run", "run 49", SECOND, TWO[1]), ("run", "run 1", "Halted after 54 changes", None),
     ("to-break", "back 2", SECOND + "2 changes taken back.", TWO[1]), ("step", "forth 1", "Did 9 STZ 2000:", None), ("to-break", "back 1", SECOND + "Taken back: 9 STZ 2000:", TWO[1]),

@@ -30,8 +30,7 @@ class Marionette:
         with socket.socket() as free:
             free.bind(("127.0.0.1", 0))
             port = free.getsockname()[1]
-        # What is saved goes there too, and no panel opens for it: that would take the keys away
-        # from the page.
+        # What is saved goes there too, and no panel opens for it, which would take the keys away.
         given = {"marionette.port": port, "browser.download.alwaysOpenPanel": False, "browser.download.folderList": 2, "browser.download.dir": self.profile.name}
         pathlib.Path(self.profile.name, "user.js").write_text("".join(f'user_pref("{name}", {json.dumps(value)});\n' for name, value in given.items()))
         words = ["firefox-esr", "--headless", "--marionette", "--no-remote", "--profile", self.profile.name]

@@ -27,8 +27,7 @@ def heat(page, native, count):
     page.click("run")
     count.same("heat: none unless it is asked for", page.script(TINTS), [None, None])
     page.click("heat")
-    # ENTA and ENT1 once, the loop three times, HLT once: 1 is log 2 of log 4. Cell 100 holds 3, 2,
-    # 1; cell 101 gets a 7, and then what it holds.
+    # ENTA, ENT1 and HLT once, the loop three times: 1 is log 2 of log 4. Cell 100 holds 3, 2, 1; cell 101 gets a 7.
     wanted = [["0.00", None], *[["0.50", "1"]] * 2, *[["1.00", "3"]] * 4, ["0.50", "1"], *[["0.00", None]] * 2]
     cells = [["1.00", "altered by 3 changes", "altered by 3 changes"], ["0.50", "altered by 1 change", "altered by 1 change"], ["0.00", "", ""]]
     count.same("heat: of the lines", page.script(LINES), wanted)
@@ -44,8 +43,7 @@ def heat(page, native, count):
     page.click("heat")
     count.same("heat: gone", (page.script(TINTS), [row[1] for row in page.script(CELLS)]), ([None, None], ["", "", ""]))
     page.put("text", SOURCE.replace("ENT1 3", "ENT1 2000"))
-    page.click("run")
-    page.click("heat")
+    page.click("run", "heat")
     count.same("heat: of cells that were altered often", [row[1] for row in page.script(CELLS)], ["altered by 2,000 changes", "altered by 1 change", ""])
 
 

@@ -33,16 +33,10 @@ def requests(page, native, count):
         found.append(page.script(TAKEN))
         return found
 
-    for _ in range(3):
-        page.click("step")
+    page.click(*["step"] * 3)
     page.script(TAKEN)
     first = seen()
-    page.click("to-end")
-    for _ in range(20):
-        page.click("step")
-    page.click("run")
-    for _ in range(20):
-        page.click("back")
+    page.click("to-end", *["step"] * 20, "run", *["back"] * 20)
     page.script(TAKEN)
     for name, found in (("little", first), ("a million changes", seen())):
         messages = [sent for one in found for sent in one]
@@ -59,8 +53,7 @@ def lost(page, native, count):
     page.lesson(0)
     page.put("text", LOOP)
     page.script(SENT)
-    for name in ("step", "step", "step", "back"):
-        page.click(name)
+    page.click("step", "step", "step", "back")
     page.say("set A 7")
     page.slide(1)
     state, log = page.state(), page.log()
@@ -90,8 +83,7 @@ def far(page, native, count):
     """A breakpoint millions of changes back, and one among the changes ahead; a HLT there does not end a run."""
     page.lesson(0)
     page.put("text", LOOP)
-    for _ in range(3):
-        page.click("run")
+    page.click(*["run"] * 3)
     page.press_button(page.all("#listing .line button")[0])
     page.click("to-break")
     count.same("far: back to the first line", page.commands(), [*["run 1000000"] * 3, "back 3000000"])
@@ -99,14 +91,11 @@ def far(page, native, count):
     natively("far", page, native, count)
     page.press_button(page.all("#listing .line button")[0])
     page.put("text", " ENTA 1\n HLT\n ENTA 2\n HLT\n INCA 1\n INCA 2\n HLT\n END 0\n")
-    for name in ("run", "beyond", "run", "beyond", "run"):
-        page.click(name)
+    page.click("run", "beyond", "run", "beyond", "run")
     page.press_button(page.all("#listing .line button")[5])
-    for name in ("to-start", "run", "run"):
-        page.click(name)
+    page.click("to-start", "run", "run")
     count.same("far: to a breakpoint ahead, over two HLT", page.commands(), ["run 1000000", "step 1", "run 1000000", "step 1", "run 1000000", "back all", "forth 5", "forth all"])
-    page.click("to-break")
-    page.click("to-break")
+    page.click("to-break", "to-break")
     count.same("far: back to it, and to the start", page.commands()[-2:], ["back 2", "back all"])
     natively("far: ahead", page, native, count)
 

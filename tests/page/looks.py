@@ -6,6 +6,7 @@ import shutil
 import subprocess
 import time
 
+from native import STAGE
 from selenium.webdriver.common.keys import Keys
 from uses import natively
 
@@ -44,7 +45,7 @@ def narrow(page, native, count):
         page.script("document.querySelectorAll('details').forEach(d => { d.open = !d.hidden; })")
         page.click("run")
         page.say("show code 0 20")
-        for tab in ("program", "machine", "output", "talk", "lesson"):
+        for tab in ("program", "machine", *STAGE, "lesson"):
             page.tab(tab)
             count.same(f"320 pixels: lesson {number + 1}, {tab}", page.script(sideways), 0)
     for name in ("help", "share"):
@@ -63,6 +64,7 @@ def narrow(page, native, count):
 def keys(page, native, count):
     """Without a mouse."""
     page.lesson(0)
+    page.tab("talk")
     page.script("document.querySelector('.skip').focus()")  # the first stop; behind the last one the tab key may leave the page
     seen = []
     for _ in range(90):
@@ -98,6 +100,9 @@ def keys(page, native, count):
     page.press(Keys.END)
     page.press(Keys.ARROW_LEFT)
     count.same("keys: the slider, as one command", page.commands()[-2:], ["show clock", "goto 3"])
+    page.script("document.querySelector('#stage-tabs button').focus()")
+    page.press(Keys.ARROW_RIGHT, Keys.ARROW_RIGHT, Keys.ENTER)
+    count.row("keys: a picture of the stage", page.one("nodes-box").get_attribute("open") is not None)
     page.script("document.querySelector('#register-rows button').focus()")
     page.press(Keys.ARROW_DOWN, Keys.ARROW_UP)
     page.press(Keys.ENTER)
@@ -109,7 +114,6 @@ def names(page, native, count):
     """A screen reader's name for every control."""
     page.lesson(8)
     page.click("run")
-    page.script("document.querySelectorAll('details').forEach(d => { d.open = true; })")
     for name in (None, "help", "share", "who"):
         if name == "who":
             page.tap(page.all("#register-rows td")[0])
@@ -140,11 +144,10 @@ def alone(page, native, count):
 def shown(page, count):
     """A sort at the moment after one of its keys was moved, as docs/PAGE.md shows it: what is seen in one place is what is seen in the others."""
     page.lesson("50_insertion")
-    page.click("run")
-    page.click("to-start")
+    page.click("run", "to-start")
     page.slide(60)
     page.say("forth until cell KEY+4 or cell KEY+5 or cell KEY+6")
-    page.script("document.getElementById('log').scrollTop = 0; document.activeElement.blur(); document.querySelector('.side').scrollTop = 0")
+    page.script("document.getElementById('log').scrollTop = 0; document.activeElement.blur()")
     done, state = page.value("moment"), page.state()
     cell, value = re.search(r"cell (\d+) from \d+ to (\d+)", page.told()).groups()
     count.same("shown: the slider", page.value("slider"), done)
@@ -215,6 +218,11 @@ def bounds(page, native, count):
     print(f"a million steps: the slider to 0, 123456, 500000, 777777, 999999, 1000000 takes {times} ms")
     page.say("show regs")
     natively("bounds: a million steps", page, native, count)
+    page.put("script-lines", "run 100000\n" * 3)
+    page.script("window.said = []; new MutationObserver(() => window.said.push(document.getElementById('did').textContent)).observe(document.getElementById('did'), { childList: true })")
+    page.click("script-all")
+    said = page.script("return window.said")
+    count.same("bounds: how far long commands are", [text for text in said if text.startswith("Working … ")], [f"Working … {done} of 3 long commands done." for done in (1, 2, 3)])
 
 
 def memory(page, native, count):
@@ -231,16 +239,15 @@ def memory(page, native, count):
         count.same(f"{name}: the commands", page.log(), [("step 1", "ran 1 to 0001 clock 1: limit\n")])
         count.same(f"{name}: the script", len(page.value("script-lines").splitlines()), 100)
 
-    page.one("script-all").click()
+    page.brought("script-all").click()
     page.wait(lambda: page.one("stop").is_displayed(), 60)
     page.click("stop")
-    count.row("stop: told, and as no fault", page.told().startswith("Stopped.") and page.one("status").get_attribute("class") == "", page.told())
+    count.row("stop: told, and as no fault", page.told().startswith("Stopped.") and "fault" not in page.one("status").get_attribute("class"), page.told())
+    count.row("stop: told in view", page.one("did").size["width"] > 100)
     stands("stop")
     page.click("script-all")
     count.row("memory: told", page.told().startswith("Not done: T1 out of memory."), page.told())
     stands("memory")
-    page.click("back")
-    page.click("run")
-    page.click("run")
+    page.click("back", "run", "run")
     count.same("memory: it goes on", page.commands(), ["step 1", "back 1", "forth 1", "run 5"])
     natively("memory: it goes on", page, native, count)

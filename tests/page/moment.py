@@ -1,5 +1,4 @@
 """A moment as a text, to copy: for a program whose registers, flags and cells follow from the rules of the book."""
-from selenium.webdriver.common.by import By
 
 SOURCE = """ ORIG 100
 START ENTA 12
@@ -22,8 +21,7 @@ def moment(page, native, count):
     page.choose("cells-which", "range")
     page.put("cells-from", "105")
     page.put("cells-to", "106")
-    for _ in range(4):
-        page.click("step")
+    page.click(*["step"] * 4)
     registers = [row("rA", "+ 00 00 00 00 12", 12, "    K"), row("rX", "+ 00 00 00 00 00", 0, " " * 5), row("rI1", "+ 00 00", 0, "  "), row("rI2", "- 00 03", -3, " C")]
     registers += [row(name, "+ 00 00", 0, "  ") for name in ("rI3", "rI4", "rI5", "rI6", "rJ")]
     flags = "overflow off, comparison equal, location 0104 (line 6), clock 6 u"
@@ -34,7 +32,7 @@ def moment(page, native, count):
     count.same("moment: told", page.told(), "The moment, as a text, is copied.")
     page.click("back")
     count.same("moment: another one", page.copied("moment-copy").split("\n")[10], "overflow off, comparison equal, location 0103 (line 5), clock 4 u")
-    page.press_button(page.driver.find_element(By.CSS_SELECTOR, "#bars-box summary"))
+    page.tab("bars")
     page.put("bars-from", "104")
     page.put("bars-to", "105")
     page.wait(lambda: len(page.all("#bars [data-cell]")) == 2)

@@ -1,12 +1,25 @@
-"""The native program, to compare with."""
+"""The native program, to compare with; and the scripts by which a test looks at the page and does what a person does."""
 import json
-import pathlib
 import subprocess
-import sys
 
-sys.path.append(str(pathlib.Path(__file__).resolve().parent.parent))
-
-from counting import Count
+IDLE = "return !!document.querySelector('main') && document.querySelector('main').getAttribute('aria-busy') === 'false'"
+LOG = """return [...document.querySelectorAll('#log p')].map(p => [p.textContent, p.nextElementSibling.textContent])"""
+SLIDE = """const s = document.getElementById('slider'); s.value = arguments[0];
+s.dispatchEvent(new Event('input', {bubbles: true})); if (arguments[1]) s.dispatchEvent(new Event('change', {bubbles: true}));"""
+READ = """window.isRead = false; const { text } = Blob.prototype;
+Blob.prototype.text = async function () { Blob.prototype.text = text; const read = await text.call(this); setTimeout(() => { window.isRead = true; }); return read; };"""
+EDITOR = "const cm = document.querySelector('#listing .CodeMirror').CodeMirror; "
+PASTE = EDITOR + """const [text, old] = [arguments[0], cm.getValue()]; const least = Math.min(text.length, old.length);
+let [head, tail] = [0, 0]; while (head < least && text[head] === old[head]) head += 1;
+while (tail < least - head && text[text.length - 1 - tail] === old[old.length - 1 - tail]) tail += 1;
+cm.focus(); cm.replaceRange(text.slice(head, text.length - tail), cm.posFromIndex(head), cm.posFromIndex(old.length - tail), 'paste');"""
+COPIED = """window.copiedText = null; window.addEventListener('copy', ({ clipboardData }) => { window.copiedText = clipboardData.getData('text/plain'); }, { once: true })"""
+PUT = """const e = document.getElementById(arguments[0]); e.focus(); e.value = arguments[1]; e.dispatchEvent(new Event('input', {bubbles: true}));"""
+BRING = """const element = document.getElementById(arguments[0]), box = element.closest('#picture > details'), menu = element.closest('.menu');
+if (menu) document.getElementById('ways').open = true; if (box) box.open = true;
+const part = element.closest('[data-of]'), tab = part && document.querySelector(`#tabs [data-tab=${part.dataset.of}]`); if (tab && !part.offsetParent) tab.click();"""
+STAGE = {"output": "output-box", "units": "units-box", "talk": "talk-box", "bars": "bars-box", "nodes": "nodes-box", "symbols": "symbols-box", "cards": "given",
+         "analysis": "analysis-box", "passages": "passages-box"}
 
 
 class Native:

@@ -4,8 +4,7 @@ import xml.etree.ElementTree as tree
 from bars import as_many_calls
 from guards import link_of
 
-# Three nodes of two words, a key and a link; then rI1 and rI2 point to the first two, and the last
-# one is linked to the first.
+# Three nodes of a key and a link; then rI1 and rI2 point to the first two, and the last is linked to the first.
 SOURCE = """HEAD EQU 990
 POOL EQU 1000
  ORIG HEAD
@@ -78,7 +77,7 @@ def nodes_kept(page, native, count):
     count.row("nodes: kept in the file", f"\n* nodes: {ASKED}\n".encode() in saved, saved[-300:])
     page.lesson(0)
     count.same("nodes: another program begins without them", (page.script(IS_OPEN), len(page.all("#nodes svg"))), (False, 0))
-    page.go(link_of(page, saved))
+    page.follow(link_of(page, saved))
     count.same("nodes: the same by a link", page.script(SAID), said)
     for name, text in (("a source", SOURCE.replace("HEAD EQU", f"* nodes: {ASKED}\nHEAD EQU")), ("a script", f"{SOURCE}%SCRIPT\nstep 2\n* nodes: {ASKED}\n")):
         page.lesson(0)

@@ -41,7 +41,6 @@ def reload(page, native, count):
     page.lesson("50_insertion")
     page.press_button(page.all("#listing .line button")[9])
     page.click("run")
-    page.script("document.getElementById('map-box').open = true")
     page.press_button(page.one("bars-strip"))
     page.put("cards", "ONE\nTWO\n")
     page.click("run")
@@ -53,7 +52,7 @@ def reload(page, native, count):
     page.click("columns")
 
     def seen():
-        return page.value("text"), page.value("cards"), page.points(), page.log(), page.state(), page.value("bars-from"), [page.script(f"return document.getElementById('{box}').open") for box in ("bars-box", "map-box")], page.script("return ['bars-strip', 'columns'].map(id => document.getElementById(id).getAttribute('aria-pressed'))"), page.script(NAME)
+        return page.value("text"), page.value("cards"), page.points(), page.log(), page.state(), page.value("bars-from"), [page.script(f"return document.getElementById('{box}').open") for box in ("bars-box", "output-box")], page.script("return ['bars-strip', 'columns'].map(id => document.getElementById(id).getAttribute('aria-pressed'))"), page.script(NAME)
 
     held(page)
     before = seen()
@@ -64,7 +63,7 @@ def reload(page, native, count):
     page.lesson(0)
     address = held(page)
     page.script("window.stays = true")
-    page.go(page.address.split("#")[0] + address)
+    page.follow(page.address.split("#")[0] + address)
     count.same("reload: each address is a link", (page.value("text"), page.chosen()), (FIRST.split("%SCRIPT")[0], EXAMPLES[0].stem))
     page.put("text", "".join(f"* {number * 7919 % 99991} {number ** 3 % 99989} {number ** 5 % 99971}\n" for number in range(12_000)) + OWN)
     page.idle()
@@ -73,8 +72,7 @@ def reload(page, native, count):
 
 
 def named(page, native, count):
-    """A lesson that was edited says so, in the menu, the notes, on paper and in the file's name; a text of one's own has no lesson's name, notes or script,
-    and undo brings the lesson back."""
+    """An edited lesson says so wherever it is named; a text of one's own has no lesson's name, notes or script, and undo brings the lesson back."""
     page.script(NAMED)
     page.lesson(0)
     title = page.script(NAME)
@@ -83,14 +81,14 @@ def named(page, native, count):
     saved = page.save().decode()
     count.same("named: edited, the file", (page.script("return window.named"), kept(saved, "lesson")), (f"{EXAMPLES[0].stem}-edited.mixal", [EXAMPLES[0].stem]))
     page.put("text", OWN)
-    count.same("named: one's own", (page.script(NAME), page.one("notes").is_displayed(), page.one("script").is_displayed()), ("your own program", False, False))
+    count.same("named: one's own", (page.script(NAME), page.one("notes").is_displayed(), bool(page.value("script-lines"))), ("your own program", False, False))
     saved = page.save().decode()
     count.same("named: one's own, the file", (page.script("return window.named"), saved), ("program.mixal", OWN))
     page.caret(1)
     for _ in range(2):
         page.chord(Keys.CONTROL, "z")
     page.idle()
-    count.same("named: undone", (page.script(NAME), page.one("notes").is_displayed(), page.one("script").is_displayed()), (title, True, True))
+    count.same("named: undone", (page.script(NAME), page.one("notes").is_displayed(), bool(page.value("script-lines"))), (title, True, True))
     page.go(link_of(page, with_script(FIRST.replace("ENTA 5", "ENTA 7"), f"step 1\n* Kept by the page, and no commands:\n* lesson: {EXAMPLES[0].stem}\n").encode()))
     count.same("named: by a link", page.script(NAME), f"{title}, edited")
 
@@ -100,8 +98,7 @@ def kept_apart(page, native, count):
     bundle = EXAMPLES[8].read_text()
     script = bundle.split("%SCRIPT\n")[1].splitlines()
     page.lesson(8)
-    for _ in range(3):
-        page.click("script-next")
+    page.click(*["script-next"] * 3)
     page.press_button(page.all("#listing .line button")[9])
     state, log, left = page.state(), page.log(), page.value("script-lines")
     page.script(NAMED)
@@ -123,8 +120,7 @@ def kept_apart(page, native, count):
 def edit_undone(page, native, count):
     """The last sessions of other texts come back with their texts, also over work on the text between."""
     page.lesson(0)
-    page.click("step")
-    page.click("step")
+    page.click("step", "step")
     good, log = page.value("text"), page.log()
     page.put("text", good.replace("ENTA 5", "ENTA 6"))
     page.click("step")

@@ -31,8 +31,7 @@ BIG     CON  1073741823
         END  START
 """
 WORD = "+ 00 00 00 00 12"
-# Of each step what is asked, a right answer and a wrong one with what is told; or the operation, if
-# nothing is asked.
+# Of each step what is asked, a right answer and a wrong one with what is told; or the operation alone.
 ROWS = (
     ("What is rA after it?", ("5", "Right, rA is 5. Did 2 ENTA 5: rA from 0 to 5 (1 u)."), ("6", "Wrong, rA is 5, not 6. Did 2 ENTA 5: rA from 0 to 5 (1 u).")),
     ("What is rA after it?", ("+12", "Right, rA is 12. "), ("-12", "Wrong, rA is 12, not -12. ")),
@@ -110,8 +109,7 @@ def hidden(page, native, count):
     """What the page says of the next step elsewhere does not give the answer away, and is there when nothing is asked."""
     begin(page, " STA 100\n ENTA 5\n STA 100(2:2)\n LDA 4000\n END 0\n")
     page.put("cells-to", "100")
-    for _ in range(2):
-        page.click("step")
+    page.click(*["step"] * 2)
     count.same("hidden: the sentence, and the values", (page.text("next"), page.script(WILL)), ("Next: 3 STA 100(2:2).", []))
     page.click("predict")
     told = "Next: 3 STA 100(2:2): cell 100(2:2) becomes rA: cell 100 from 0 to 1310720."
@@ -121,10 +119,10 @@ def hidden(page, native, count):
     count.row("hidden: a field of a cell", page.told().startswith("Right, cell 100 is + 00 05 00 00 00. "), page.told())
     count.same("hidden: a fault is told and not asked", (asked(page), page.text("next")), ("", "Next: 4 LDA 4000: a step would be a fault, M5 no such cell."))
     open_sort(page)
-    page.click("run")
-    page.click("to-start")
+    page.click("run", "to-start")
     count.row("hidden: what was taken back is told", asked(page) == "" and "becomes" in page.text("next"), page.text("next"))
     page.click("anew")
+    page.tab("bars")
     while "STX" not in page.text("next"):
         page.click("step")
     count.same("hidden: no bar of what will be", (asked(page).split()[2], page.all("#bars .next")), ("cell", []))
@@ -188,7 +186,7 @@ def saved(page, native, count):
     count.same("saved: opened", (page.text("score"), page.state(), asked(page)), ("2 of 3 right", state, ROWS[3][0]))
     answer(page, "-12")
     count.same("saved: goes on", page.text("score"), "3 of 4 right")
-    page.go(link)
+    page.follow(link)
     count.same("saved: by a link", (page.text("score"), page.one("predict").is_selected(), asked(page)), ("2 of 3 right", True, ROWS[3][0]))
     page.click("predict")
     off = page.save().decode()

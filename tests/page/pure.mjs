@@ -1,14 +1,13 @@
 // The modules of the page that need no page: node tests/page/pure.mjs [SEED]. The last line counts.
 import { readFileSync } from "node:fs";
-import { bundleOf, cardsApart, openedOf, partsOf, scriptOf, withCards } from "../../page/bundle.js";
-import { commandsFor, differenceIn, endOf, withData } from "../../page/check.js";
+import { MADE, bundleIn, bundleOf, cardsApart, fragmentOf, openedOf, partsOf, scriptOf, withCards } from "../../page/bundle.js";
+import { differenceIn, endOf, numbersIn, rowsOf, withData } from "../../page/check.js";
 import { grammarOf } from "../../page/colours.js";
 import { CARD, CHARACTERS, OPERATIONS, PSEUDO, explained, filled, takeTables } from "../../page/operations.js";
 import { upTo } from "../../page/range.js";
-import { Path } from "../../page/path.js";
+import { Path, mapWith } from "../../page/path.js";
 import { subjectOf, verdictOn } from "../../page/predict.js";
 import { Session } from "../../page/session.js";
-import { bundleIn, fragmentOf } from "../../page/share.js";
 import { tooLarge } from "../../page/source.js";
 import { barsOf, stripOf, valuesOf } from "../../page/svg.js";
 import { tellings } from "./told.mjs";
@@ -57,23 +56,27 @@ row("predict: one of some", [verdicts(["less", "equal"], "cmp", "+ 00", "0"), ve
 const [HEAD, BLOCK, REST] = ["N       EQU  3\n", "* data\n        CON  1\n* end of data\n", "START   ENT1 N\n* end of it\n        END  START\n"];
 const OTHER = ["N       EQU  12\n", "* data\n        CON  7\n        CON  8\n* end of data\n"];
 row("cases: other data", [OTHER.join(""), OTHER[0], ""].map((data) => withData(HEAD + BLOCK + REST, data).source), [OTHER.join("") + REST, OTHER[0] + BLOCK + REST, HEAD + BLOCK + REST]);
-row("cases: a label is a word", ["N\tEQU 3\n", "NN EQU 3\n", " N EQU 3\n", "*N EQU 3\n"].map((line) => withData(line, OTHER[0])), [{ source: OTHER[0] }, ...["NN EQU 3\n", " N EQU 3\n", "*N EQU 3\n"].map((source) => ({ source, lacks: "N" }))]);
+row("cases: a label is a word", ["N\tEQU 3\n", "n equ 3\n", "NN EQU 3\n", " N EQU 3\n", "*N EQU 3\n"].map((line) => withData(line, OTHER[0])), [{ source: OTHER[0] }, { source: OTHER[0] }, ...["NN EQU 3\n", " N EQU 3\n", "*N EQU 3\n"].map((source) => ({ source, lacks: "N" }))]);
 row("cases: a line that is lacking", [HEAD + REST, HEAD + REST + BLOCK, BLOCK, HEAD + BLOCK.slice(0, 10) + REST].map((source) => withData(source, OTHER.join("")).lacks), ["* data", undefined, "N", "* end of data"]);
-row("cases: what is asked", [{ cells: "A\nSUM\nX+1 X+N\n", limits: "clock <= 5\n" }, { cells: "SUM\n" }, { unit: "18\n", limits: "clock <= 5\n" }].map(commandsFor), [["show values", "show values SUM SUM", "show values X+1 X+N", "show counts"], ["show values SUM SUM"], []]);
-const REGISTERS = 'A  + 00 00 00 01 33          97  "   A3"\nX  - 00 00 00 00 23         -23  "    T"\nI1 + 00 03                    3  " C"\n';
-const CELLS = '1002 + 00 00 00 00 33          33  "    3"\n1003 - 00 00 00 00 00          -0  "     "\n';
-const COUNTS = "         1           1  3000     15  START   ENT1 1            [1]\n         3           6  3003     18  SWAP    LDA  TABLE,1      [N//2]\n         3           3  3004     19          INC1 1\n         7          10  total\n";
-const [replies, halted] = [[REGISTERS, CELLS, COUNTS].map((result) => ({ success: true, body: { result } })), ["", "7", "3009", "63", "halt"]];
-const numbers = (wanted, limits) => differenceIn({ wanted, limits, cells: "X\nI1\nTABLE+3 TABLE+4\n" }, halted, limits ? replies : replies.slice(0, 2)) ?? null;
+const cellsOf = (...numbers) => numbers.map((number, at) => ({ cell: 1002 + at, number }));
+const REGISTERS = [["A", "97"], ["X", "-23"], ["I1", "3"]].map(([name, number]) => ({ name, number }));
+const HELD = numbersIn(["I1", "X", "TABLE+3 TABLE+4"], REGISTERS, [{ ends: ["TABLE+3", "TABLE+4"], cells: cellsOf("33", "-0") }]);
+row("cases: numbers by their names", HELD, [{ what: "rX", found: "-23" }, { what: "rI1", found: "3" }, { what: "cell 1002", found: "33" }, { what: "cell 1003", found: "-0" }]);
+const COUNTS = new Map([["SWAP", "3"], ["CLOCK", "3"], ["STEPS", "3"], ["steps", "7"], ["clock", "63"], ["conflicts", "0"], ["writes X", "1"], ["writes Y", undefined]]);
+const numbers = (wanted, counts, limits) => differenceIn({ wanted, limits, cells: "X\nI1\nTABLE+3 TABLE+4\n" }, HELD, counts) ?? null;
 row("cases: numbers", ["-23\n3\n33\n-0\n", "-23\n4\n33\n-0\n", "-23\n3\n33\n0\n", "-23\n3\n33\n-0\n5\n", "-23\n3\n33\n"].map((wanted) => numbers(wanted)), [null, { what: "rI1", found: "3", wanted: "4" }, { what: "cell 1003", found: "-0", wanted: "0" }, { what: "number 5", wanted: "5" }, { what: "cell 1003", found: "-0" }]);
-row("cases: limits", ["clock <= 63\nsteps >= 7\nSWAP = 3\n", "clock <= 62\n", "steps >= 8\n", "SWAP = 4\n", "NEXT <= 9\n"].map((limits) => numbers("-23\n3\n33\n-0\n", limits)), [null, { what: "the clock", wanted: "at most 62", found: "63" }, { what: "the number of steps", wanted: "at least 8", found: "7" }, { what: "the count of SWAP", wanted: "4", found: "3" }, { what: "the count of NEXT", wanted: "at most 9" }]);
-row("cases: a name that is lacking", differenceIn({ wanted: "5\n", cells: "SUM\n" }, halted, [{ success: false, body: {} }]), { what: "SUM, which the program lacks,", wanted: "5" });
-const written = (wanted, unit, units) => differenceIn({ wanted, unit }, halted, [{ success: true, body: { units } }]) ?? null;
+row("cases: a large number as its letters", differenceIn({ wanted: "35991752\n", cells: "X\n" }, [{ what: "rX", found: "34885832" }]), { what: "rX", found: "“BEECH”", wanted: "“BIRCH”" });
+row("cases: limits", ["clock <= 63\nsteps >= 7\nSWAP = 3\n", "clock <= 62\n", "steps >= 8\n", "swap = 4\n", "NEXT <= 9\n"].map((limits) => numbers("-23\n3\n33\n-0\n", COUNTS, limits)), [null, { what: "the clock", wanted: "at most 62", found: "63" }, { what: "the number of steps", wanted: "at least 8", found: "7" }, { what: "the count of swap", wanted: "4", found: "3" }, { what: "the count of NEXT", wanted: "at most 9" }]);
+row("cases: writes", ["writes X <= 1\n", "writes X = 2\n", "writes Y = 0\n", "conflicts = 0\n"].map((limits) => numbers("-23\n3\n33\n-0\n", COUNTS, limits)), [null, { what: "the number of writes to X", wanted: "2", found: "1" }, { what: "the number of writes to Y", wanted: "0" }, null]);
+row("cases: a name that is lacking", differenceIn({ wanted: "5\n", cells: "SUM\n" }, numbersIn(["SUM"], REGISTERS, [{ ends: ["SUM"] }])), { what: "SUM, which the program lacks,", wanted: "5" });
+const written = (wanted, unit, units) => differenceIn({ wanted, unit }, rowsOf(units, unit)) ?? null;
 const printer = (rows, pages = []) => [{ unit: 8 }, { unit: 18, rows, pages }, { unit: 19, rows: ["TYPED"], pages: [] }];
 row("cases: rows", [["A", "  B"], ["A"], ["A", "B"], ["A", "  B", ""]].map((rows) => written("A\n  B\n", "18\n", printer(rows))), [null, { what: "row 2 of unit 18", wanted: "  B" }, { what: "row 2 of unit 18", found: "B", wanted: "  B" }, { what: "row 3 of unit 18", found: "" }]);
 row("cases: new pages, and a unit of several", [written("A\n", "18\n", printer(["A"], [0])), written("A\n", "18\n", printer(["A"], [1])), written("", undefined, printer([]))], [{ what: "row 1 of unit 18", found: "(new page) A", wanted: "A" }, { what: "row 2 of unit 18", found: "(new page) " }, { what: "row 1 of unit 19", found: "TYPED" }]);
-row("cases: how it ended", [halted, ["", "20000", "3009", "50000", "limit"], ["", "1", "0001", "1", "fault M5 no such cell"]].map((ran) => endOf(ran)), ["The run ended by HLT after 7 steps, clock 63 u.", "The run has not ended after 20,000 steps, the most of this case.", "The run ended after 1 step, at 0001, by the fault M5 no such cell."]);
-row("cases: before a conflict", endOf(halted, { location: 2, conflict: { text: "cell 0100 is used while unit 16 reads into it until 501" } }), "The run ended before a conflict at 0002: cell 0100 is used while unit 16 reads into it until 501.");
+const [halted, left] = [{ done: 7, location: 3009, clock: "63", halted: true }, { done: 20000, location: 3009, clock: "50000", halted: false }];
+const FAULT = { exceptionId: "M5", description: "no such cell" };
+row("cases: how it ended", [endOf(halted), endOf(left), endOf({ ...left, done: 1, location: 1 }, FAULT)], ["The run ended by HLT after 7 steps, clock 63 u.", "The run has not ended after 20,000 steps, the most of this case.", "The run ended after 1 step, at 0001, by the fault M5 no such cell."]);
+row("cases: before a conflict", endOf(halted, undefined, { location: 2, conflict: { text: "cell 0100 is used while unit 16 reads into it until 501" } }), "The run ended before a conflict at 0002: cell 0100 is used while unit 16 reads into it until 501.");
 
 // The first letters of a name that has this colour in the samples of the editors.
 const COLOURS = {
@@ -149,7 +152,7 @@ for (let round = 0; round < 200; round += 1) {
   const { bars, nodes, passages, names, score, lesson } = kept;
   row("a bundle", opened, { source, deck, breaks: kept.breaks, bars, nodes, passages, names, score, lesson, done, left: kept.left });
   row("a bundle: what is shown", shown.join(" "), kept.shown);
-  row("a bundle that waits", openedOf(parts, true).left, [...done, ...kept.left]);
+  row("a bundle that waits", openedOf(parts, true).left, done.length > 0 && kept.left.length > 0 ? [...done, MADE, ...kept.left] : [...done, ...kept.left]);
   const whole = withCards(deck, cards);
   row("cards apart from a deck", cardsApart(whole).cards, cards);
   row("cards in their deck again", withCards(cardsApart(whole).deck, cards), whole);
@@ -210,7 +213,7 @@ for (const ahead of [0, 4000]) {
   for (const way of ["continue", "reverseContinue"]) await asks.stop(way, { cells: [5], filters: ["conflict"] });
   await asks.values(["TABLE+1"]);
   await asks.cellsAt([1, 2], [10, 11], 5);
-  await asks.mapWith("A");
+  await mapWith(asks, "A", await asks.look());
   await asks.told("show analysis");
   await asks.altersOf([100]);
   await asks.writesOf("cell 100");
@@ -224,8 +227,8 @@ globalThis.document = { createElementNS: (_, name) => element(name) };
 const within = (shape, name) => [...(shape.name === name ? [shape.given] : []), ...(shape.inside || []).flatMap((each) => within(each, name))];
 tellings(row, within);
 const bars = [4, -2, 0].map((value, at) => ({ cell: 10 + at, value, text: String(value), isWritten: at === 1, was: at === 1 ? 8 : value, isNext: at === 2, will: at === 2 ? 6 : value }));
-const heights = within(barsOf({ title: "", text: "", bars, arrows: [] }), "rect").map(({ height }) => height);
-row("bars: of 8 to -2 in 90 points, a dashed one for what was, a hollow one for what will be", heights, [36, 18, 72, 0, 54]);
+const heights = within(barsOf({ title: "", text: "", bars, arrows: [], size: { width: 720, height: 160, em: 10 }, nameOf: String }), "rect").map(({ height }) => height);
+row("bars: of 8 to -2 in 79 points, a dashed one for what was, a hollow one for what will be", heights, [31.6, 15.8, 63.2, 0, 47.4]);
 const strip = within(stripOf({ title: "", cells: [1], columns: [5, 5, -10, 0].map((value, moment) => ({ moment, values: [value] })), done: 1 }), "rect");
 row("strip: a box for each run of a value, and the moment", strip.map(({ x, width, "fill-opacity": dark }) => [x, width, dark]), [[0, 48, "0.5"], [48, 24, "1"], [24, 24, undefined]]);
 const writes = [[50, 0, 7], [100, 7, 14]].map(([number, before, after]) => ({ number, before: { number: before }, after: { number: after } }));

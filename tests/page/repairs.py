@@ -41,12 +41,10 @@ def calls(page, native, count):
     """Over a subroutine, also among what was taken back, to a breakpoint in it, and out of it."""
     page.lesson(0)
     page.put("text", CALLS)
-    for name in ("step", "over", "step", "step", "out"):
-        page.click(name)
+    page.click("step", "over", "step", "step", "out")
     wanted = ["step 1", "run 4", "step 1", "step 1", "run 2"]
     count.same("calls: over and out", (page.commands(), page.script(MARKED)), (wanted, [4]))
-    for name in ("to-start", "step", "over"):
-        page.click(name)
+    page.click("to-start", "step", "over")
     count.same("calls: over what was taken back", page.commands()[-3:], ["back all", "forth 1", "forth 4"])
     page.press_button(page.all("#listing .line button")[5])
     page.click("over")
@@ -83,8 +81,7 @@ def left(page, native, count):
         page.size(width, 800)
         if button:
             page.click(button)
-        page.click("back")
-        page.click("step")
+        page.click("back", "step")
         ends = page.script("const at = (s) => document.querySelector(s).getBoundingClientRect(); const [bow, from, to] = [at('.bow'), at('.left .line'), at('.at .line')]; return [bow.top - (to.top + to.bottom) / 2, bow.bottom - (from.top + from.bottom) / 2, bow.left >= to.left - 2 && bow.right < to.left + 20]")
         count.row(f"left: the bow leads from one to the other, {width} {button}", abs(ends[0]) < 3 and abs(ends[1]) < 3 and ends[2], ends)
     page.size(1280, 900)
@@ -112,8 +109,7 @@ def own_faults(page, native, count):
 def focus(page, native, count):
     """The focus stays where it was at each step."""
     page.lesson(8)
-    page.click("run")
-    page.click("to-start")
+    page.click("run", "to-start")
     places = {"a register": "#register-rows button", "a flag": "#flags button", "a cell": "#cell-rows button[tabindex='0']", "a line": "#listing .CodeMirror-code > :first-child .line button", "the log": "#log"}
     for name, selector in places.items():
         page.script("document.querySelector(arguments[0]).focus()", selector)
@@ -144,9 +140,7 @@ def focus(page, native, count):
 def setting(page, native, count):
     """A value that is refused is told beside its field; one in the past asks before it drops what is ahead."""
     page.lesson(0)
-    page.click("run")
-    page.click("back")
-    page.click("back")
+    page.click("run", "back", "back")
     page.tap(page.all("#register-rows td")[0])
     count.same("set: what it drops", page.text("who-ahead"), "To change it here drops the 2 changes ahead.")
     page.one("who-value").send_keys("12345678901", Keys.ENTER)
@@ -161,7 +155,7 @@ def setting(page, native, count):
         page.idle()
         count.same(f"set: {typed}", page.commands()[-1], command)
     page.click("back")
-    page.one("command").send_keys("set A 7", Keys.ENTER)
+    page.brought("command").send_keys("set A 7", Keys.ENTER)
     page.idle()
     count.row("set: a command asks first", page.text("command-note").startswith("This drops 1 change ahead.") and page.commands()[-1] == "back 1", page.text("command-note"))
     page.one("command").send_keys(Keys.ENTER)
@@ -177,7 +171,7 @@ def refused_text(page, native, count):
     good = page.value("text")
     page.put("text", " JUMP 0\n" + good)
     count.row("refused: registers are told to be old", page.script("return getComputedStyle(document.querySelector('#registers .of-old')).display") == "block")
-    page.one("command").send_keys("step 5", Keys.ENTER)
+    page.brought("command").send_keys("step 5", Keys.ENTER)
     page.idle()
     count.row("refused: a command is answered", page.text("command-note").startswith("Not done, since the text is refused. Line 1: A2"), page.text("command-note"))
     count.same("refused: the command is not lost", page.value("command"), "step 5")

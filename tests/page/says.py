@@ -65,8 +65,7 @@ def sentences(page, native, count):
 
 
 def fault_seen(page, native, count):
-    """A fault is in the list below the listing, whole, and the listing goes to its line, which a click or a key does too; it is told to screen readers at
-    the source."""
+    """A fault is in the list, whole, and the listing goes to its line, as by a click or a key; screen readers are told at the source."""
     page.size(1280, 720)
     texts = {"a long remark": (f" JUMP 0{'':20}{'a remark over all columns, ' * 9}\n END 0\n", 1), "out of sight": (" NOP\n" * 80 + " JUMP 0\n" + " NOP\n" * 80 + " END 0\n", 81)}
     for name, (text, line) in texts.items():
@@ -133,7 +132,10 @@ def said_once(page, native, count):
     """A step is read out by the status alone, a command that was typed by its reply too."""
     page.lesson(0)
     page.script("window.lives = []; const log = document.getElementById('log'); new MutationObserver(() => window.lives.push(log.getAttribute('aria-live'))).observe(log, { childList: true })")
+    page.script("window.told = []; for (const live of document.querySelectorAll('[role=status], [role=alert]')) new MutationObserver(() => window.told.push(live.textContent.trim())).observe(live, { childList: true, subtree: true })")
     page.click("step")
+    heard = page.script("return [...new Set(window.told)].filter((text) => text.startsWith('Did '))")
+    count.same("said once: one sentence of one region", (len(heard), page.script("return [...document.querySelectorAll('.told')].every((told) => told.ariaHidden === 'true')")), (1, True))
     page.say("show clock")
     page.click("back")
     count.same("said once", page.script("return window.lives"), ["off", "polite", "off"])
@@ -142,8 +144,7 @@ def said_once(page, native, count):
 def on_paper(page, native, count):
     """What is printed says which lesson, which moment and which day it is."""
     page.lesson(8)
-    page.click("run")
-    page.click("back")
+    page.click("run", "back")
     page.script("window.dispatchEvent(new Event('beforeprint'))")
     found = re.fullmatch(r"(.*), change 84 of 85, (\d{4}-\d\d-\d\d)", page.text("on-paper"))
     count.row("on paper: lesson, moment, day", found and found[1] == page.script("return document.getElementById('lessons').selectedOptions[0].textContent"), page.text("on-paper"))

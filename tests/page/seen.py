@@ -36,7 +36,7 @@ def output(page, native, count):
     """What is printed is in view beside the program, with its first new row, and the status counts the rows."""
     page.size(1280, 720)
     page.lesson(8)
-    count.same("output: none at the start", page.one("output").is_displayed(), False)
+    count.same("output: none at the start", page.all("#papers .unit"), [])
     page.click("run")
     rows = page.all("#papers .paper > div:not(.page)")
     count.same("output: rows", len(rows), 4)
@@ -44,16 +44,21 @@ def output(page, native, count):
         count.row(f"output: in view: {row.text}", page.script(IN_VIEW, row, ".paper"))
     count.row("output: told", "4 rows printed." in page.told(), page.told())
     count.row("output: the listing is in view too", page.script(IN_VIEW, page.driver.find_element(By.CSS_SELECTOR, ".at .line"), "#listing"))
-    page.click("back")
-    page.click("back")
+    page.click("back", "back")
     count.row("output: taken back", "1 row taken back." in page.told(), page.told())
     page.click("to-start")
-    count.same("output: none again", page.one("output").is_displayed(), False)
+    count.same("output: none again", page.all("#papers .unit"), [])
     page.put("text", " ENT1 12\nLOOP OUT 100(18)\n DEC1 1\n J1P LOOP\n OUT 100(19)\n HLT\n END 0\n")
     page.click("run")
     first = page.driver.find_element(By.CSS_SELECTOR, "#paper-18 > div")
     count.row("output: the first row of a long run is in view", page.script(IN_VIEW, first, "#paper-18"))
     count.row("output: both papers", page.one("paper-18").is_displayed() and page.one("paper-19").is_displayed() and "13 rows printed." in page.told(), page.told())
+    page.put("text", " OUT 100(18)\n HLT\n ORIG 100\n" + ' ALF "ABCDE"\n' * 24 + " END 0\n")
+    page.click("run")
+    for width, height in ((1280, 800), (1920, 1080)):
+        page.size(width, height)
+        fits = page.script("const paper = document.getElementById('paper-18'); return [paper.textContent, paper.scrollWidth - paper.clientWidth]")
+        count.same(f"output: a row of 120 letters fits, {width} wide", fits, ["ABCDE" * 24, 0])
 
 
 def spans(page, line):
@@ -87,7 +92,7 @@ def lesson(page, native, count):
     page.size(1280, 720)
     page.lesson(0)
     page.put("text", SORT)
-    page.script("document.querySelector('#symbols details').open = true")
+    page.tab("symbols")
     symbols = [[cell.text for cell in row.find_elements(By.CSS_SELECTOR, "th, td")][:3] for row in page.all("#symbol-rows tr")]
     count.same("lesson: symbols, in decimal too", symbols[:3], [["N", "3", "+ 00 00 00 00 03"], ["KEY", "999", "+ 00 00 00 15 39"], ["START", "3000", "+ 00 00 00 46 56"]])
     count.same("lesson: colours", spans(page, 8), [["START", "entity"], ["LDX", "support"], ["KEY", "variable"], ["+", "keyword-operator"], ["1", "constant"]])
@@ -128,17 +133,20 @@ def small(page, native, count):
         count.row(f"{width} x {height}: the bar leaves room", bar < 0.34, bar)
         low = "return [...document.querySelectorAll('main button, #time button, header button')].filter(b => b.offsetParent && b.getBoundingClientRect().height < 23.9).map(b => b.id || b.getAttribute('aria-label'))"
         found = page.script(low)
-        for tab in ("machine", "program") if width < 960 else ():
+        for tab in ("machine", "program") if width < 800 else ():
             page.tab(tab)
             found += page.script(low)
         count.same(f"{width} x {height}: buttons are high enough for a finger", found, [])
-        if width < 960:
+        if width < 800:
             shown = {}
-            for tab, part in (("program", "source"), ("machine", "registers"), ("talk", "talk"), ("lesson", "notes"), ("output", "units")):
+            for tab, part in (("program", "source"), ("machine", "registers"), ("talk", "talk"), ("lesson", "notes"), ("units", "units")):
                 page.tab(tab)
                 shown[tab] = [name for name in ("source", "registers", "talk", "notes", "units") if page.one(name).is_displayed()]
                 count.same(f"{width} x {height}: the tab {tab}", shown[tab], [part])
             page.tab("program")
+            page.click("step")
+            dots = "return [...document.querySelectorAll('#tabs button')].filter((tab) => getComputedStyle(tab, '::after').content.includes('●')).map((tab) => tab.dataset.tab)"
+            count.same(f"{width} x {height}: a dot where the step changed something", page.script(dots), ["machine"])
 
 
 PAIRS = (("ink", "paper"), ("ink", "leaf"), ("soft", "paper"), ("soft", "leaf"), ("soft", "button"), ("ink", "button"), ("ink", "here"), ("ink", "altered"), ("red", "here"), ("red", "altered"),

@@ -1,14 +1,12 @@
 """The map of time, and all changes that wrote a part: for a loop whose course follows from the rules of the book."""
 import time
-import xml.etree.ElementTree as tree
 
 from kept import SENT
 from selenium.webdriver.common.by import By
 from selenium.webdriver.common.keys import Keys
 from typing_ import slowed, work
 
-# Three times through a loop of two lines; a row is printed each time. Each line that is executed is
-# a change: ENT1, then OUT, DEC1, J1P three times, HLT.
+# The changes are ENT1, then three times OUT, which prints a row, DEC1 and J1P, then HLT.
 SOURCE = """LINE EQU 100
  ORIG 3000
 START ENT1 3
@@ -20,18 +18,16 @@ LOOP OUT LINE(18)
  ALF HELLO
  END START
 """
-LINES = [3, *[4, 5, 6] * 3, 7]  # of the eleven changes
+ROWS = [0, *[1, 1, 1] * 3, 1]  # of the eleven changes: START, and LOOP with the lines below it
 PRINTED = [2, 5, 8]
 
 FIELD = "const f = document.querySelector('#map .field'); const x0 = Number(f.getAttribute('x')), w = Number(f.getAttribute('width'));"
 BOXES = r"""const boxes = [...document.querySelectorAll('#map path.bar')].flatMap(p => [...p.getAttribute('d').matchAll(/M([\d.]+) ([\d.]+)h([\d.]+)v([\d.]+)/g)])
     .map(found => found.slice(1).map(Number)); """
-DARK = FIELD + BOXES + """return boxes.map(([x, y, width, height]) => [Math.round((x - x0) / w * 11), Math.round(width / w * 11), Math.round((y - 4) / height)])"""
+DARK = FIELD + BOXES + """return boxes.map(([x, y, width, height]) => [Math.round((x - x0) / w * 11), Math.round(width / w * 11), Math.round((y - 2) / (height / 0.86))])"""
 TICKS = FIELD + """return [...document.querySelectorAll('#map path.mark')].map(p => Number(p.getAttribute('d').split(' ')[1])).map(x => Math.round((x - x0) / w * 11))"""
 PRESENT = FIELD + "return Math.round((Number(document.querySelector('#map .present').getAttribute('x1')) - x0) / w * 11)"
 NAMES = "return [...document.querySelectorAll('#map text')].map(t => t.textContent)"
-CLICK = """const f = document.querySelector('#map .field').getBoundingClientRect();
-    document.querySelector('#map svg').dispatchEvent(new MouseEvent('click', { bubbles: true, clientX: f.left + f.width * arguments[0], clientY: f.top + 5 }));"""
 SAID = "return ['title', 'desc'].map(name => document.querySelector(`#map svg ${name}`).textContent)"
 
 
@@ -40,47 +36,36 @@ def begin(page):
     page.put("text", SOURCE)
 
 
-def open_map(page):
-    page.press_button(page.driver.find_element(By.CSS_SELECTOR, "#map-box summary"))
-
-
 def time_map(page, native, count):
-    """Which line was executed by which change, what was printed, where one is; a click goes there; the map stays on the way back."""
+    """Which label's lines were executed by which change, what was printed, where one is; the slider lies over it; the map stays on the way back."""
     begin(page)
-    open_map(page)
-    page.wait(lambda: page.text("map-more") == "Nothing was done yet.")
     page.click("run")
     page.wait(lambda: page.all("#map svg"))
-    columns = [[] for _ in LINES]
+    rows = [[] for _ in ROWS]
     for x, width, row in page.script(DARK):
         for at in range(x, x + width):
-            columns[at].append(row + 3)
-    count.same("map: the line of each change", columns, [[line] for line in LINES])
+            rows[at].append(row)
+    count.same("map: the label of each change", rows, [[row] for row in ROWS])
     count.same("map: what was printed", page.script(TICKS), PRINTED)
-    count.same("map: the lines and the unit", page.script(NAMES), ["3", "4", "5", "6", "7", "unit 18"])
+    count.same("map: the labels and the unit", page.script(NAMES), ["START", "LOOP", "unit 18"])
     title, text = page.script(SAID)
     count.same("map: its title", title, "Map of 11 changes")
-    count.row("map: as a text", "Line 4: 3 times, between changes 2 and 8." in text and "Written to unit 18 by 3 changes, the first 2, the last 8." in text, text)
+    count.row("map: as a text", "LOOP: 10 times, between changes 2 and 11." in text and "Written to unit 18 by 3 changes, the first 2, the last 8." in text, text)
     count.same("map: where one is", page.script(PRESENT), 11)
-    page.script(CLICK, 5.1 / 11)
-    page.idle()
-    count.same("map: a click goes there", (page.value("moment"), page.script(PRESENT)), ("5", 5))
-    count.same("map: the same after the way back", (page.script(TICKS), page.script(NAMES)), (PRINTED, ["3", "4", "5", "6", "7", "unit 18"]))
-    root = tree.fromstring(page.copied("map-copy"))
-    texts = [element.text for element in root.iter("{http://www.w3.org/2000/svg}text")]
-    count.same("map: as a file", texts, ["3", "4", "5", "6", "7", "unit 18"])
+    over = page.script("const [map, slider] = ['#map .field', '#slider'].map((name) => document.querySelector(name).getBoundingClientRect()); return [map.left - slider.left, map.right - slider.right].map(Math.round).map(Math.abs)")
+    count.row("map: the slider lies over it", max(over) <= 3, over)
+    page.driver.execute_script("arguments[0].focus()", page.one("slider"))
+    page.slide(5)
+    count.same("map: the slider goes there", (page.value("moment"), page.script(PRESENT)), ("5", 5))
+    count.same("map: the same after the way back", (page.script(TICKS), page.script(NAMES)), (PRINTED, ["START", "LOOP", "unit 18"]))
     page.lesson(0)
-    count.same("map: none of another program", len(page.all("#map svg")), 0)
+    count.same("map: none of another program", page.script(SAID)[0], "Map of 0 changes")
 
 
 def writes(page, native, count):
     """All changes that wrote a register, each to click on; its values over time; its marks on the map."""
     begin(page)
-    open_map(page)
-    page.click("run")
-    page.click("to-start")
-    for _ in range(4):
-        page.click("step")
+    page.click("run", "to-start", *["step"] * 4)
     page.tap(page.driver.find_element(By.CSS_SELECTOR, "#register-rows tr[data-key='I1'] button"))
     page.wait(lambda: page.all("#who-writes button"))
     rows = page.script("return [...document.querySelectorAll('#who-writes button')].map(b => [b.textContent, b.getAttribute('aria-current')])")
@@ -107,8 +92,7 @@ LOOP    INC1 1
 
 
 def many_writes(page, native, count):
-    """Of a register that was written by some thousands of changes: those around this moment, and the curve says nothing of what is not known. The course
-    follows from the rules: ENT3, ENT1, and then INC1, DEC3, J3P for each N from 1 to 3000, so change 3N writes rI1, which is N + 1 then."""
+    """Of thousands of writes those around this moment, and no curve of the others. After ENT3 and ENT1, change 3N writes rI1, which is N + 1 then."""
     page.lesson(0)
     page.put("text", LONG)
     page.click("run")
@@ -146,7 +130,6 @@ def map_grows(page, native, count):
     """A map of many changes has columns of the same width; what is done later is added to it, and another way drops what it was made of."""
     page.lesson(0)
     page.put("text", LONG)
-    open_map(page)
     page.script(SENT)
     wide = FIELD + BOXES + "return boxes.length > 0 && boxes.every(([x, , width]) => x >= x0 - 0.1 && x + width <= x0 + w + 0.2)"
     for command in ("run 1000", "run 1500", "run 100000"):
@@ -159,18 +142,18 @@ def map_grows(page, native, count):
     count.row("map: little is asked with it open", sum(number for _, number in page.script("return window.sent")) <= 8, page.script("return window.sent"))
     page.click("to-end")
     text = page.script(SAID)[1]
-    count.row("map: the sums", all(f"Line {line}: {times:,} time" in text for line, times in ((2, 1), (3, 1), (4, 3000), (5, 3000), (6, 3000), (7, 1))), text)
+    count.row("map: the sums", all(f"{label}: {times:,} times" in text for label, times in (("START", 2), ("LOOP", 9001))), text)
     page.slide(500)
     page.say("set I3 5")
     page.click("run")
     page.wait(lambda: "Map of 517 changes" in page.script(SAID)[0])
-    times = (500 - 2) // 3 + 5
+    times = 517 - 3  # all but ENT3, ENT1 and the command
     text = page.script(SAID)[1]
-    count.row("map: after another way", f"Line 4: {times} times" in text and "Line 7: 1 time," in text, text)
+    count.row("map: after another way", f"LOOP: {times} times" in text and "START: 2 times" in text, text)
 
 
 def map_time(page, native, count):
-    """The map of a million changes is open within a fifth of a second of the page's work, and the engine goes over none of them again."""
+    """The map of a million changes is there within a fifth of a second of the page's work, and the engine goes over none of them again."""
     page.command("Performance.setTimeDomain", timeDomain="threadTicks")
     page.command("Performance.enable")
     page.lesson(0)
@@ -178,12 +161,12 @@ def map_time(page, native, count):
     page.click("run")
     page.script(SENT)
     before, begun = work(page), time.monotonic()
-    page.script("document.getElementById('map-box').open = true")
+    page.script("document.querySelector('#map svg').remove(); document.querySelector('.slide').style.height = '5rem'")
     page.wait(lambda: page.all("#map svg"))
     took, seconds = round(work(page) - before, 1), time.monotonic() - begun
     print(f"the map of a million changes is seen after {1000 * seconds:.0f} ms, of which the page works {took} ms")
     count.row("map: its time at a million changes", took <= 200 * slowed() and len(page.script("return window.sent")) <= 1, (took, page.script("return window.sent")))
-    count.row("map: all of them", page.script(SAID)[0] == "Map of 1,000,000 changes" and "Line 2: 250,000 times" in page.script(SAID)[1], page.script(SAID))
+    count.row("map: all of them", page.script(SAID)[0] == "Map of 1,000,000 changes" and "LOOP: 999,999 times" in page.script(SAID)[1], page.script(SAID))
 
 
 MAP = (time_map, writes, many_writes, map_grows)

@@ -1,7 +1,7 @@
 // What the engine says of nodes, of the map, of formulas and of passages, and how it is drawn; for pure.mjs.
 import { nodesOf } from "../../page/graph.js";
 import { nodesIn } from "../../page/nodes.js";
-import { mapIn } from "../../page/pictures.js";
+import { darksOf } from "../../page/pictures.js";
 import { mapOf } from "../../page/svg.js";
 import { analysisIn, csvOf, passagesIn } from "../../page/tables.js";
 
@@ -32,11 +32,14 @@ const PASSAGES = `  state            A        KEY+1  A < 0
 
 // `row` compares what is found with what is wanted; `within` finds the shapes of a name.
 export function tellings(row, within) {
-  const map = mapIn("map 12 changes, 12 columns, 2 rows\n3001 4 1..2:10 4..5:10 7..9:6\n3007 1 11..12:3\n");
-  row("map: what is said", [map.columns, map.many, map.rows[0].count, map.rows[1]], [12, 2, 4, { cell: 3007, count: 1, boxes: [{ from: 11, to: 12, dark: 3 }] }]);
-  row("map: of no changes", mapIn("map 0 changes, 0 columns, 0 rows\n"), { columns: 0, many: 0, rows: [] });
-  const outlines = within(mapOf({ title: "", text: "", ...map, marks: [], total: 12, done: 0 }), "path").map(({ d, "fill-opacity": dark }) => [d, dark]);
-  row("map: its boxes, of columns of 60", outlines, [["M94.8 4h60v12h-60zM274.8 4h60v12h-60z", 1], ["M454.8 4h120v12h-120z", 0.6], ["M694.8 16h60v12h-60z", 0.3]]);
+  const counts = [[0, 0], [3, 0], [3, 3], [6, 3], [8, 4]].map(([one, two]) => Uint32Array.of(0, one, two)); // before columns of three changes
+  const darks = darksOf(counts, [[1], [2], [1, 2]], 3, 12);
+  row("map: how dark groups are in columns", darks, [{ count: 8, darks: [10, 0, 10, 7] }, { count: 4, darks: [0, 10, 0, 4] }, { count: 12, darks: [10, 10, 10, 10] }]);
+  row("map: the last column may be shorter", darksOf(counts.slice(0, 2), [[1]], 3, 3).concat(darksOf([counts[3], counts[4]], [[1]], 3, 2)), [{ count: 3, darks: [10] }, { count: 8, darks: [10] }]);
+  const rows = [{ name: "A", darks: darks[0].darks }, { name: "B", darks: darks[1].darks }];
+  const { svg } = mapOf({ title: "", text: "", rows, columns: 3, total: 12, marks: [], size: { width: 152, height: 40, em: 10 } });
+  const outlines = within(svg, "path").map(({ d, "fill-opacity": dark }) => [d, dark]);
+  row("map: its boxes, of columns of 30", outlines, [["M30 2h30v11.2h-30zM90 2h30v11.2h-30zM60 15h30v11.2h-30z", 1], ["M120 2h30v11.2h-30z", 0.7], ["M120 15h30v11.2h-30z", 0.4]]);
 
   const linked = nodesIn(LINKED);
   const at = (cell, isBack = false) => ({ cell, isBack, said: "" });
@@ -65,4 +68,5 @@ export function tellings(row, within) {
   row("passages: a row for each", passagesIn(PASSAGES, true), { heads: ["state", "A", "KEY+1", "A < 0"], rows: [["3", "-5", "-0", "true"], ["10", "-1073741823", "7", "false"]], more: ".. and 17 before" });
   row("passages: none", passagesIn("  state            A\n", false), { heads: ["state", "A"], rows: [], more: "" });
   row("a table as CSV", csvOf([["a", "1,5"], ['x"', "y"]]), 'a,"1,5"\n"x""",y\n');
+  row("a table as CSV: no cell is a formula", csvOf([["-12", "-1+2", "N-1"], ["=A1", "+1", "@A"], ["\t=1", "\r=1", '=H("x")']]), "-12,'-1+2,N-1\n'=A1,'+1,'@A\n'\t=1,'\r=1,\"'=H(\"\"x\"\")\"\n");
 }

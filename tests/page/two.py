@@ -1,8 +1,7 @@
 """Two runs side by side, worked out by hand: other cards, another program, and commands."""
 from uses import natively
 
-# The first character of a card, A = 1 or B = 2, and one more to cell 200; the card is printed. Six
-# changes.
+# Six changes: one more than the first character of a card, A = 1 or B = 2, to cell 200; the card is printed.
 FIRST = """START IN 100(16)
  LDA 100(1:1)
  INCA 1
@@ -61,8 +60,7 @@ def other_program(page, native, count):
     code = ("cell 0002", "cell 0005", "cell 0007")
     differs("another program, at the start", page, count, *code)
     count.same("two: another program: its cell", page.script(ROW, "cell 0002"), [["1310768 “ E  =”", "262192 “ A  =”"]])
-    for _ in range(3):
-        page.click("step")
+    page.click(*["step"] * 3)
     differs("another program, after three steps", page, count, "rA", *code)
     count.same("two: another program: rA", page.script(ROW, "rA"), [["6 “    F”", "2 “    B”"]])
     count.same("two: how long the other one is", page.text("compare-what"), "The other run has 6 changes.")
@@ -84,8 +82,7 @@ def many(page, native, count):
     """Cells 501 to 700 are different, and rA and the first instruction: of 202 names 30 are in the sentence, of 201 cells 100 in the table."""
     page.lesson(0)
     page.put("text", MANY)
-    page.click("run")
-    page.click("compare-open")
+    page.click("run", "compare-open")
     page.put("text", MANY.replace("ENTA 1", "ENTA 2"))
     page.click("run")
     cells = ["cell 0000", *(f"cell {cell:04d}" for cell in range(501, 701))]
@@ -98,19 +95,17 @@ def closed(page, native, count):
     """It ends by Close; a run that has written nothing, a text that is refused, an engine that is stopped."""
     page.lesson(0)
     page.put("text", FIRST + "%DEVICES\n%UNIT 16\nA\n")
-    page.click("run")
-    page.click("compare-open")
-    page.click("to-start")
+    page.click("run", "compare-open", "to-start")
     differs("both at the start", page, count)
     page.put("text", FIRST.replace(" OUT 100(18)\n", ""))
     page.click("run")
-    count.same("two: the other one alone has written", [page.script(PAPERS), page.one("output").is_displayed()], [[[], [["A", True]]], True])
+    count.same("two: the other one alone has written", [page.script(PAPERS), bool(page.all(".paper"))], [[[], [["A", True]]], True])
     count.row("two: a row that is missing is told", page.text("compare-text").endswith(", row 1 of unit 18."), page.text("compare-text"))
     page.put("text", " JUMP 0\n END 0\n")
     count.row("two: refused", page.told().startswith("Line 1: A2"), page.told())
     name = page.one("compare-close").get_attribute("aria-label")
     page.press_button(page.one("compare-close"))
-    count.same("two: closed", [name, page.one("compare").is_displayed(), page.script(PAPERS), page.one("output").is_displayed()], ["Close the other run", False, [[], []], False])
+    count.same("two: closed", [name, page.one("compare").is_displayed(), page.script(PAPERS), bool(page.all(".paper"))], ["Close the other run", False, [[], []], False])
     count.same("two: closed: the focus", page.script("return document.activeElement.id"), "compare-open")
     page.put("text", FIRST)
     page.click("run")

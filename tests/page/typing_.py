@@ -23,8 +23,7 @@ def slowed():
 
 
 def key_times(page, native, count):
-    """A key at the middle of a long text: what the page itself works, its scripts, styles and layouts, in time of its thread; the median of twenty, the
-    best of three times. The time to the frame that shows it is printed: it depends on other work, and on when the screen takes a frame."""
+    """A key in a long text: what the page itself works, in time of its thread; the median of twenty, the best of three. The time to the frame is printed."""
     page.command("Performance.setTimeDomain", timeDomain="threadTicks")
     page.command("Performance.enable")
     page.size(1280, 800)
@@ -85,7 +84,10 @@ def columns(page, native, count):
         places.append(page.script(EDITOR + "return cm.getCursor().ch"))
     count.same("columns: over what is there", places, [8, 13, 26])
     count.same("columns: nothing is altered by it", page.value("text"), wanted)
-    page.press(Keys.ESCAPE, Keys.TAB)
+    page.new()
+    page.put("text", "")
+    page.press("* sum", Keys.ENTER, Keys.TAB, "ORIG", Keys.TAB, "1000", Keys.ENTER, "START", Keys.TAB, "ENTA", Keys.TAB, "5", Keys.ENTER, "HLT", Keys.ENTER, "END", Keys.TAB, "START", Keys.ESCAPE, Keys.TAB)
+    count.same("columns: typed from nothing, the first label goes to column 1", page.value("text"), "* sum\n        ORIG 1000\nSTART   ENTA 5\n        HLT\n        END  START")
     count.row("columns: Escape, then Tab leaves", page.script("return document.activeElement.closest('.line') !== null"), page.script("return document.activeElement.outerHTML"))
 
 

@@ -30,7 +30,8 @@ def examples(page, native, count):
     for number, path in enumerate(EXAMPLES):
         bundle = path.read_text()
         page.lesson(number)
-        if not page.one("script").is_displayed():
+        count.same(f"{path.name}: opens with its bars", page.one("bars-box").get_attribute("open") is not None, path.stem in BARS)
+        if not bool(page.value("script-lines")):
             count.row(f"{path.name}: has a script", False)
             continue
         page.click("script-all")
@@ -44,11 +45,12 @@ def examples(page, native, count):
         count.same(f"{path.name}: to its end", page.replies(), ran.split("\n", 1)[0] + "\n")
         page.click("to-start")
         count.same(f"{path.name}: back to the start", page.state(), first)
-        page.click("step")
-        page.click("to-end")
+        page.click("step", "to-end")
         count.same(f"{path.name}: forth to the end", page.state(), last)
         page.say("show all")
         count.same(f"{path.name}: the machine then", page.log()[-1][1], ran.split("\n", 1)[1])
+        if path.stem in BARS:
+            page.tab("bars")
         saved = page.save()
         more = "" if ran.startswith("ran 1 ") else "forth all\n"
         done = f"%SCRIPT\nrun 1000000\nback all\nforth 1\n{more}show all\n* Kept by the page, and no commands:\n* lesson: {path.stem}\n{BARS.get(path.stem, '')}"
@@ -104,6 +106,9 @@ def breakpoints(page, native, count):
     page.put("text", "* one more line\n" + page.value("text"))
     found = page.points()
     count.same("breakpoint: goes along with its line", found, [first + 1])
+    page.click("step")
+    page.tap(page.all("#listing .line button")[first])
+    count.row("breakpoint: told in view, after a step too", page.one("did").size["width"] > 100, page.told())
 
 
 def slider(page, native, count):
@@ -190,13 +195,16 @@ def cards(page, native, count):
     page.one("cards").clear()
     page.one("cards").send_keys("(ACB)(DE)(AF)=")
     page.idle()
+    page.tab("units")
     count.same("cards: still to be read", [card.text for card in page.all(".card")], ["(ACB)(DE)(AF)="])
     page.click("run")
     page.say("show all")
     other = bundle.replace(text, "(ACB)(DE)(AF)=\n").split("%SCRIPT")[0]
     count.same("cards: typed in, and run", page.replies(), native.bundle(other + "%SCRIPT\nrun 1000000\nshow all\n"))
     natively("cards: saved, and run", page, native, count)
+    page.tab("cards")
     page.put("cards", "WHAT IS THIS?")
+    count.same("cards: refused, in view", page.one("deck-fault").is_displayed(), True)
     count.row("cards: refused", re.match(r"Card 1: K4 ", page.text("deck-fault")), page.text("deck-fault"))
     page.put("cards", "FINE\n  ?\n")
     count.row("cards: the letter and its column", re.match(r"Card 2: K4 .*: “\?” at column 3$", page.text("deck-fault")), page.text("deck-fault"))
@@ -206,25 +214,35 @@ def cards(page, native, count):
     page.put("deck", "%UNIT 16\n%UNIT 19\n?\n")
     count.row("cards: a fault of the deck, at its line there", re.match(r"Deck, line 3: K4 ", page.text("deck-fault")), page.text("deck-fault"))
     page.put("deck", "")
+    page.put("text", " OUT 0(1)\n OUT 0(1)\n IOC 0(1)\n HLT\n END 0\n")
+    page.tab("units")
+    strips = []
+    for _ in range(3):
+        page.click("step")
+        strips.append(page.script("return [...document.querySelectorAll('.tape .block')].map((block) => (block.getAttribute('aria-label') ?? 'end') + (block.matches('.head') ? ' ▼' : ''))"))
+    written = "block 0, just written", "block 0", "block 1, just written"
+    count.same("cards: a tape is a strip with its head", strips, [[written[0], "end ▼"], [*written[1:], "end ▼"], ["block 0, the next ▼", "block 1", "end"]])
+    page.tap(page.all(".tape .block")[1])
+    count.same("cards: the words of a block", page.script("return [...document.querySelectorAll('#unit-list pre')].map((words) => words.textContent.match(/[+-]/g).length)"), [100])
     count.same("cards: good again", page.one("deck-fault").is_displayed(), False)
 
 
 def share(page, native, count):
     page.lesson(8)
     page.all("#listing .line button")[9].click()
-    page.click("run")
-    page.click("step")
-    page.click("back")
+    page.click("run", "step", "back")
     page.say("show regs")
     link, log, state, text = page.link(), page.log(), page.state(), page.value("text")
     saved = page.save()
     page.go(link)
     count.same("share: the program", page.value("text"), text)
+    count.same("share: its commands wait", (page.log(), page.told()), ([], f"This link brings {len(log)} commands, not done yet: Do all does them."))
+    page.click("link-all")
     count.same("share: the commands and their replies", page.log(), log)
     count.same("share: the moment", page.state(), state)
     count.same("share: the breakpoint", page.all("#listing .line button")[9].get_attribute("aria-pressed"), "true")
     count.same("share: the bundle", page.save(), saved)
-    count.row("share: the script that was not done", page.one("script").is_displayed() and page.value("script-lines").startswith("break PUT"), page.value("script-lines"))
+    count.row("share: the script that was not done", bool(page.value("script-lines")) and page.value("script-lines").startswith("break PUT"), page.value("script-lines"))
     count.row("share: the lesson and its notes", page.chosen() == EXAMPLES[8].stem and page.one("notes-text").is_displayed())
     page.click("script-all")
     natively("share: done to the end", page, native, count)

@@ -2,8 +2,8 @@
 import pathlib
 import re
 
-from faces import bytes_of
-from steps import answers, is_so, looks, rows_of
+from tests.rows.faces import bytes_of
+from tests.rows.steps import answers, is_so, looks, rows_of
 
 
 def text_of(field):

@@ -8,18 +8,6 @@ import tempfile
 LIMIT = 300  # seconds
 
 
-def kinds():
-    """The kinds of rows of a file, and what puts a function there: it takes the program, the fields of a row and what is wanted, and gives the answer."""
-    found = {}
-
-    def kind(*names):
-        def named(function):
-            found.update(dict.fromkeys(names, function))
-            return function
-        return named
-    return found, kind
-
-
 class Program:
     """The built program, and a folder for the files of its runs."""
 

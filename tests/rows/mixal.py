@@ -1,8 +1,8 @@
 """Kinds of rows of lines of MIXAL, and of which bytes of them are at fault."""
 import re
 
-from faces import bytes_of, number
-from operations import name_of
+from tests.rows.faces import bytes_of, number
+from tests.rows.operation_rows import name_of
 
 END = b"\r\n END 0\n"
 # Where X is 5, 2B is 9, and the location is 7.

@@ -4,7 +4,7 @@ import pty
 import re
 import subprocess
 
-from faces import bytes_of, shown
+from tests.rows.faces import bytes_of, shown
 
 
 def of_each(item):

@@ -3,8 +3,8 @@ import json
 import os
 import re
 
-from faces import bytes_of
-from streams import called
+from tests.rows.faces import bytes_of
+from tests.rows.stream_rows import called
 
 STEPS = 9
 
@@ -55,7 +55,7 @@ def completing(program, fields, _):
 UNITS = {"all": [], "printer": ["--unit", "18"]}
 
 
-def printed(program, fields, wanted):
+def printed(program, fields, _):
     """The same by one byte a call, by seven, and by all. A run that prints no unit is one that counts. Where a run halts is seen by its steps: the sum of
     their times, and the cell after the last."""
     source, deck, steps, units, *texts = fields
@@ -69,8 +69,6 @@ def printed(program, fields, wanted):
     words += [word for name, word in (("trace", "--trace"), ("strict", "--strict")) if name in asked]
     if "keep" in asked:
         words += ["--keep", "k"]
-    if count == "0":
-        return wanted  # the words of a run allow no such number
     shown = words + (UNITS[units] if units != "none" else ["--unit", "20"] if "(20)" not in source else ["--counts"])
     whole, *others = (called(program, shown, read_most=size, write_most=size)[:2] for size in (1 << 20, 1, 7))
     if others != [whole, whole]:
@@ -164,7 +162,14 @@ def planned(program, fields, wanted):
     words = words_of(line)
     output, errors, _, status = called(program, words, bytes_of(given), opened_to=opened)
     calls = [it.split(" ") for it in open(opened).read().split("\n")[:-1]] if os.path.exists(opened) else []
-    asked, created = ([name for way, name in calls if way == wanted_way and "/" not in name] for wanted_way in ("read", "written"))
+    asked = [name for way, name, _ in calls if way == "read" and "/" not in name]
+    # a file is written beside its place under another name, and then gets its own
+    created = []
+    for way, name, to in calls:
+        if way == "renamed" and created:
+            created[-1] = to
+        elif way == "written" and "/" not in name:
+            created.append(name)
     told = " ".join(["asked", *asked]) + "".join(f", created {name}" for name in created)
     return f"{status}, {escaped(output.decode())}, {escaped(errors.decode())}, {told}"
 

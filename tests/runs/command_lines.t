@@ -113,7 +113,7 @@ Help.
 
 Help on a listing.
   $ mixrev list --help | grep Usage
-  Usage: mixrev list <SOURCE>
+  Usage: mixrev list [OPTIONS] <SOURCE>
 
 Help on a session.
   $ mixrev debug -h | grep Usage
@@ -417,7 +417,7 @@ A mistake before help.
 
 Help.
   $ mixrev list | grep -e Usage -e Example
-  stderr: Usage: mixrev list <SOURCE>
+  stderr: Usage: mixrev list [OPTIONS] <SOURCE>
   stderr: Example:
   [2]
   $ mixrev debug | grep -e Usage -e Example

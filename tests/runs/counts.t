@@ -19,16 +19,18 @@ The counts of a run as a table. ENT1, INCA, DEC1 and J1P take 1u, STA 2u, HLT 10
   {"line":6,"location":5,"count":1,"time":10}
   ]
   $ mixrev run sum.mixal --counts --latex </dev/null
-  \begin{tabular}{rrrr}
+  \begin{tabular}{rlllrp{0.4\linewidth}}
   \toprule
-  line & location & count & time \\
+  line & LOC & OP & ADDRESS & times & remarks \\
   \midrule
-  1 & 0 & 1 & 1 \\
-  2 & 1 & 3 & 3 \\
-  3 & 2 & 3 & 3 \\
-  4 & 3 & 3 & 3 \\
-  5 & 4 & 1 & 2 \\
-  6 & 5 & 1 & 10 \\
+  1 &  & \texttt{ENT1} & \texttt{3} & $1$ & \\
+  2 & \texttt{LOOP} & \texttt{INCA} & \texttt{0,1} & $3$ & \\
+  3 &  & \texttt{DEC1} & \texttt{1} & $3$ & \\
+  4 &  & \texttt{J1P} & \texttt{LOOP} & $3$ & \\
+  5 &  & \texttt{STA} & \texttt{SUM} & $1$ & \\
+  6 &  & \texttt{HLT} &  & $1$ & \\
+  7 & \texttt{SUM} & \texttt{CON} & \texttt{0} &  & \\
+  8 &  & \texttt{END} & \texttt{0} &  & \\
   \bottomrule
   \end{tabular}
 
@@ -74,8 +76,17 @@ No line of the source put a word into cell 1: it is +0, a NOP of 1u.
   3,2,1,10
   $ mixrev run gap.mixal --counts --json </dev/null | sed -n 3p
   {"line":null,"location":1,"count":1,"time":1},
-  $ mixrev run gap.mixal --counts --latex </dev/null | sed -n 6p
-   & 1 & 1 & 1 \\
+  $ mixrev run gap.mixal --counts --latex </dev/null | sed -n 5,7p
+  1 &  & \texttt{NOP} &  & $1$ & \\
+  2 &  & \texttt{ORIG} & \texttt{2} &  & \\
+  3 &  & \texttt{HLT} &  & $1$ & \\
+
+Of two lines for a cell the later one is executed; a count takes the place of the formula in brackets.
+
+  $ printf ' NOP 0 [2]\n ORIG 0\n HLT 0 [1] the end\n END 0\n' >twice.mixal
+  $ mixrev run twice.mixal --counts --latex </dev/null | sed -n '5p;7p'
+  1 &  & \texttt{NOP} & \texttt{0} &  & \\
+  3 &  & \texttt{HLT} & \texttt{0} & $1$ & the end \\
 
 A fault and the end of the steps are reported as of any run. A fault at the first step leaves no row.
 

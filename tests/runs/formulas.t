@@ -99,6 +99,18 @@ a comment or a constant.
   $ mixrev run odd.mixal --formulas N=1 --latex </dev/null | sed -n '8,9p'
   4 & 1 & 1 & 2-3 & $-1$ & no \\
   5 & 1 & 1 & a\_b &  &  \\
+  $ printf ' NOP 0 [=1+1]\n NOP 0 [+1]\n NOP 0 [-1]\n NOP 0 [@]\n NOP 0 [\t1]\n HLT 0 [\r]\n END 0\n' >cells.mixal
+  $ mixrev run cells.mixal --formulas '' </dev/null | tr '\t\r' '>!'
+  line,count,time,formula,value,fits
+  1,1,1,'=1+1,,
+  2,1,1,'+1,1,yes
+  3,1,1,'-1,-1,no
+  4,1,1,'@,,
+  5,1,1,'>1,1,yes
+  6,1,10,"'!",,
+  $ mixrev run cells.mixal --formulas '' --json </dev/null | sed -n 3,4p
+  {"line":2,"count":1,"time":1,"formula":"+1","value":1,"fits":"yes"},
+  {"line":3,"count":1,"time":1,"formula":"-1","value":-1,"fits":"no"},
   $ printf ' HLT 0 [\377]\n END 0\n' >high.mixal
   $ mixrev run high.mixal --formulas '' --json </dev/null
   [

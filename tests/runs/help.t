@@ -39,8 +39,8 @@ what both say with docs/FORMATS.md.
   The status is 0 if all is accepted, 1 if a source is refused, and 3 if a command
   is refused, a step meets a fault, the steps of a run are used up or a strict run
   ends before a conflict. It is 2 if nothing could be run to its end: a mistake in
-  the words, a file that cannot be opened or read, a deck that is refused, a text
-  that is too long, an output that takes no more, or no memory.
+  the words, a file that cannot be opened, read or replaced, a deck that is
+  refused, a text that is too long, an output that takes no more, or no memory.
   $ mixrev run --help
   Runs a program to its halt and writes what it prints
   
@@ -129,17 +129,20 @@ what both say with docs/FORMATS.md.
   $ mixrev list --help
   Writes the listing of a source
   
-  Usage: mixrev list <SOURCE>
+  Usage: mixrev list [OPTIONS] <SOURCE>
   
   Arguments:
     <SOURCE>  The file with the program, in the language MIXAL
   
   Options:
-    -h, --help  Print help
+        --latex  Writes the lines as a table of LaTeX
+    -h, --help   Print help
   
   A source is a text file with a program in the language MIXAL, which ends with a
   line END. The listing has each line with its location and its word, and then the
   program's symbols. If the source is refused, it has only the first fault.
+  With --latex a table has each line in the columns of the book: its number, LOC,
+  OP, ADDRESS, the formula in brackets and the remark.
   
   Example:
     mixrev list primes.mixal
@@ -309,9 +312,10 @@ A session whose input is a terminal; the echo and the prompts are left out.
   stderr: display cell E   shows cell E, and display W a word, in the same way: as print does
   stderr: undisplay        nothing is displayed any more
   stderr: save FILE        saves the source, the deck and what was done in FILE, as a bundle
-  stderr: mixrev < FILE does the same again. A file that is there already is written over.
+  stderr: mixrev < FILE does the same again. A file that holds something else is not replaced.
+  stderr: save! FILE       replaces it, whatever it holds
   stderr: source FILE      does the lines of FILE, one after the other, as if each were typed here
-  stderr: If FILE can't be read, nothing is done. In FILE source itself can't be used.
+  stderr: If FILE can't be read, nothing is done. FILE can't use source, save or reload itself.
   stderr: reload           assembles the source again, as it is now, and does there what was done so far
   stderr: Breakpoints stay, and what is watched or displayed: break LOOP is at LOOP again, if that has moved.
   stderr: If the source is refused, the session goes on as it was.

@@ -91,12 +91,12 @@ What the program printed is written, also if the deck can't be.
   stderr: mixrev: T4 not opened: folder: Is a directory
   [2]
   $ mixrev run halt.mixal --devices deck --keep /dev/full </dev/null
-  stderr: mixrev: T3 write failed: /dev/full
+  stderr: mixrev: T3 write failed: /dev/full: No space left on device
   [2]
 
-After a refused source or deck the file is as it was; a name is asked for. A dash is the name of a file.
+After a refused source or deck the file is as it was; a name is asked for.
 
-  $ printf 'OLD\n' >old
+  $ printf '%%UNIT 20\nOLD\n' >old
   $ printf ' JUMP\n END 0\n' | mixrev run - --keep old
   stderr: -:1:2: error: A2 no such operation: JUMP
   stderr:  JUMP
@@ -106,6 +106,7 @@ After a refused source or deck the file is as it was; a name is asked for. A das
   stderr: mixrev: T5 deck refused at line 1: K1 bad header
   [2]
   $ cat old
+  %UNIT 20
   OLD
   $ mixrev run print.mixal --keep /dev/stdout </dev/null
   PRINT
@@ -128,8 +129,17 @@ On standard output it comes after what is printed. If that is a file, nothing of
   $ mixrev run print.mixal --svg /dev/stdout </dev/null >all
   $ sed -n '1p' all
   PRINT
-  $ mixrev run disk.mixal --keep - </dev/null
-  $ cmp disk ./-
+
+A dash is standard output too, and no file of that name is made.
+
+  $ mixrev run disk.mixal --keep - </dev/null >all
+  $ cmp disk all
+  $ mixrev run halt.mixal --svg - </dev/null | sed -n '$p'
+  </svg>
+  $ ls ./- 2>&1 | wc -l
+  1
+  $ [ -e ./- ]
+  [1]
 
 Each file that is not saved is told, the deck first; the other one is saved all the same. Above them stands what is told of the run.
 
@@ -143,7 +153,7 @@ Each file that is not saved is told, the deck first; the other one is saved all 
   $ sed -n '$p' map
   </svg>
   $ mixrev run disk.mixal --keep deck --svg /dev/full </dev/null
-  stderr: mixrev: T3 write failed: /dev/full
+  stderr: mixrev: T3 write failed: /dev/full: No space left on device
   [2]
   $ cmp disk deck
   $ printf ' OUT 9(18)\n STZ 9\n JMP 2\n ORIG 9\n ALF "LINES"\n END 0\n%%DEVICES\n%%UNIT 18 delay 10\n' >line.mixal
@@ -162,12 +172,13 @@ Each file that is not saved is told, the deck first; the other one is saved all 
 
 A file that no more can be written to holds what it held, and a new one is not there.
 
-  $ printf 'OLD\n' >old
+  $ printf '%%UNIT 20\nOLD\n' >old
   $ (trap '' XFSZ; ulimit -f 1; mixrev run disk.mixal --keep old --svg none/map </dev/null)
   stderr: mixrev: T3 write failed: old
   stderr: mixrev: T4 not opened: none/map: No such file or directory
   [2]
   $ cat old
+  %UNIT 20
   OLD
   $ (trap '' XFSZ; ulimit -f 1; mixrev run disk.mixal --keep new </dev/null)
   stderr: mixrev: T3 write failed: new

@@ -99,7 +99,7 @@ Each file that can't be written is told, and the other one is written.
   $ cmp map.svg other.svg
   $ mixrev run print.mixal --keep left --svg /dev/full </dev/null
   PRINT
-  stderr: mixrev: T3 write failed: /dev/full
+  stderr: mixrev: T3 write failed: /dev/full: No space left on device
   [2]
   $ mixrev run print.mixal --keep none/deck --svg none/map.svg </dev/null
   PRINT

@@ -127,6 +127,12 @@ Signs of word processors, and bytes that MIX does not have.
   1:7: error: A12 bad ALF: at most five characters, between two quotation marks
   $ said ' ALF \316\224\316\243\n END 0\n'
   1:6: error: A1 bad byte: the Greek letter delta: write ~
+  $ said ' CON \316\243\n END 0\n'
+  1:6: error: A1 bad byte: the Greek letter sigma: write [
+  $ said ' CON \316\240\n END 0\n'
+  1:6: error: A1 bad byte: the Greek letter pi: write #
+  $ said ' ALF \342\200\230A\342\200\231\n END 0\n'
+  1:6: error: A1 bad byte: a quotation mark of a word processor: write '
   $ said ' ALF "HELLO\n END 0\n'
   1:7: error: A12 bad ALF: at most five characters, between two quotation marks
   $ said ' ALF "HELLO "\n END 0\n'

@@ -2,7 +2,7 @@
 import shlex
 import subprocess
 
-from conftest import SECONDS, SOURCE
+from tests.terminal.talking import SECONDS, SOURCE
 
 DECK = "%UNIT 16\nCARD\n"
 
@@ -53,7 +53,7 @@ def test_saved_deck(talk, folder):
     (folder / "other.deck").write_text(other)
     for words, used in (((), DECK), (("--devices", "other.deck"), other)):
         terminal = talk(*words, "parts.mixal")
-        for line in ("save u.mixal", "reload", "save v.mixal"):
+        for line in ("save! u.mixal", "reload", "save! v.mixal"):
             terminal.said(line)
         assert terminal.end() == 0
         assert [(folder / name).read_text() for name in ("u.mixal", "v.mixal")] == [f"{SOURCE}%DEVICES\n{used}"] * 2
@@ -80,7 +80,11 @@ def test_sourced(aside, ran, folder):
     scripted = ran("debug", "a.mixal", given="".join(f"{line}\n" for line in [*script, "show clock"]))
     assert (terminal.end("source last.txt\n"), output()) == (scripted.status, scripted.output)
     done = "step 2\nstep 2\nback until A\nrun 1000000 until A\nback all\nstep 2\nstep 2\nback until A\nback until A\nset X 5\n"
-    assert (folder / "saved.mixal").read_text() == f"{SOURCE}%SCRIPT\n{done}"
+    terminal, _ = aside()
+    for line in ("source one.txt", "c", "delete", "back all", "source one.txt", "", "source save.txt"):
+        terminal.said(line)
+    assert not (folder / "saved.mixal").exists() and terminal.said("save saved.mixal") == "saved: saved.mixal\n"
+    assert terminal.end() == 3 and (folder / "saved.mixal").read_text() == f"{SOURCE}%SCRIPT\n{done}"
     assert ran("debug", "a.mixal", given="source two.txt\n").output == "? C1 no such command\n"
 
 
@@ -125,12 +129,14 @@ def test_replaced(talk, program, folder):
     (here / "old").chmod(0o640)
     (here / "link").symlink_to("old")
     terminal = talk()
-    saying(terminal, ("save kept/link", "saved: kept/link\n"))
+    saying(terminal, ("save kept/link", "T8 not replaced: kept/link: it holds something else; replace it with save! kept/link\n"))
+    assert (here / "old").read_text() == "OLD\n"
+    saying(terminal, ("save! kept/link", "saved: kept/link\n"))
     assert terminal.end() == 0 and (here / "old").read_text() == SOURCE
     assert (here / "link").is_symlink() and (here / "old").stat().st_mode & 0o777 == 0o640
-    (here / "old").write_text("OLD\n")
+    (here / "old").write_text(DECK)
     (folder / "cards.deck").write_text(DECK)
     limited = f"trap '' XFSZ; ulimit -f 0; exec {shlex.quote(program)} run a.mixal --keep kept/old --devices cards.deck"
     run = subprocess.run(["bash", "-c", limited], cwd=folder, stdin=subprocess.DEVNULL, capture_output=True, text=True, timeout=SECONDS)
-    assert (run.returncode, run.stderr, (here / "old").read_text()) == (2, "mixrev: T3 write failed: kept/old\n", "OLD\n")
+    assert (run.returncode, run.stderr, (here / "old").read_text()) == (2, "mixrev: T3 write failed: kept/old\n", DECK)
     assert sorted(file.name for file in here.iterdir()) == ["link", "old"]

@@ -1,6 +1,6 @@
 """What a person of another debugger types first does what is meant, or the answer says what a command takes. Words that are none here are in tests/runs/help.t."""
 import pytest
-from test_talk import FOURTH, STORED
+from tests.terminal.test_talk import FOURTH, STORED
 
 TWELVE = f"+ 00 00 00 00 12 {12:11}"
 A = f'A  {TWELVE}  "    K"\n'

@@ -8,7 +8,7 @@ import time
 import pexpect
 import pexpect.fdpexpect
 import pytest
-from conftest import GREETING, PROMPT, SECONDS, Terminal
+from tests.terminal.talking import GREETING, PROMPT, SECONDS, Terminal
 
 TOP = pathlib.Path(__file__).resolve().parents[2]
 

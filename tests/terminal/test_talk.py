@@ -1,6 +1,8 @@
 """A person sees the greeting, a prompt, types a command, sees its reply and the next prompt, in turn."""
+import pathlib
+
 import pexpect
-from conftest import GREETING, SOURCE, Terminal
+from tests.terminal.talking import GREETING, Terminal
 
 FIRST = "0000  + 00 05 00 02 48  ENTA 5                 1   ENTA 5\n"
 THIRD = "0002  + 01 36 00 05 24  STA 100                3   STA 100\n"
@@ -10,6 +12,12 @@ ADDED = "      2  0001  INCA 7               1u  A + 00 00 00 00 05 -> + 00 00 0
 STORED = "      3  0002  STA 100              2u  0100 + 00 00 00 00 00 -> + 00 00 00 00 12\n"
 HALTED = "      4  0003  HLT                 10u\n"
 LAST = "      2  3999  NOP                  1u\n"
+
+
+def typed(name):
+    """The rows of typed.txt with this name."""
+    rows = pathlib.Path(__file__).with_name("typed.txt").read_text().partition(f"== {name}\n")[2].partition("== ")[0]
+    return [row.replace("\\t", "\t").split("|") for row in rows.splitlines()]
 
 
 def test_in_turn(talk):
@@ -28,29 +36,7 @@ def test_in_turn(talk):
 
 def test_person(aside, ran):
     """What a person types, and the line of a script that it stands for: each writes the same on standard output."""
-    lines = [("s", "step"), ("n", "step"), ("ba", "back 1"), ("F", "forth 1"), ("next 1", "step 1"), ("b 3", ""), ("r", "run 1000000 until loc 3"), ("cl 3", ""),
-             ("back u A", "back until A"), ("c", "run 1000000"), ("ba al", "back al"), ("ba all", "back all"), ("RUN until cell 100", "run 1000000 until cell 100"),
-             ("run 5 un loc 1", "run 5 until loc 1"), ("g 1", "goto 1"), ("se A 7", "set A 7"), ("t", "trace"), ("continue 1", "run 1"), ("sh regs", "show regs"),
-             ("  s \t 1", "step 1"), ("* s", "* s"), ("s * s", "step * s"), ("S", ""), ("stepp", "stepp"), ("", "stepp"), ("ba u cell 100", "back until cell 100"),
-             ("show clock", "show clock"), (" \t", "show clock"), ("run x", "run x"), ("", "run x"), ("help", ""), ("", ""),
-             ("set rA 5", "set A 5"), ("set Ri1 -7", "set I1 -7"), ("set cell 3 rA", "set cell 3 rA"), ("back until rA", "back until A"), ("u rX", "run 1000000 until X"),
-             ("run 3 u rJ", "run 3 until J"), ("p", "show values"), ("p A", ""), ("print rI1", ""), ("print over", ""), ("p clock", "show clock"),
-             ("p 5+3", "show value 5+3"), ("p FOO", "show value FOO"), ("print cell 100", "show values 100 100"), ("print 1 2", "show value 1 2"),
-             ("show A", ""), ("show LOC", ""), ("show", "show"), ("show clock", "show clock"), ("show last", "show last 1"),
-             ("show cell 2", "show values 2 2"), ("show cells 1", "show cells 1 1"), ("show cells 1 3", "show cells 1 3"), ("show code 1", "show code 1 1"),
-             ("show values 0", "show values 0 0"), ("show unit 3", "show unit 3"), ("where", "show code"), ("w", "show code"), ("where 2", "show code 2 2"),
-             ("x 100", "show values 100 100"), ("x 0 2", "show values 0 2"), ("break FOO", "break FOO"), ("goto START", "goto START"),
-             ("clear all", ""), ("exit now", "quit now"), ("goto 0", "goto 0"), ("watch rA", ""), ("c", "run 1000000 until A"), ("run 3", "run 3 until A"),
-             ("back", "back until A"), ("forth", "forth until A"), ("wa rX", ""), ("back all", "back all"), ("r", "run 1000000 until A or X"), ("ba 1", "back 1"),
-             ("run 3", "run 3 until A or X"), ("watch FOO", ""), ("wa cell 100 OR rI1 or over or cmp or I2", ""), ("ba", "back until A or X or cell 100 or I1 or over or cmp or I2"),
-             ("watch unit 18 or unit 19", ""), ("F", "forth until A or X or cell 100 or I1 or over or cmp or I2"), ("watch loc 3", ""),
-             ("c", "run 1000000 until A or X or cell 100 or I1 or over or cmp or I2 or loc 3"), ("watch J", ""),
-             ("back", "back until A or X or cell 100 or I1 or over or cmp or I2 or loc 3"), ("u rX or rA", "run 1000000 until X or A"), ("back all", "back all"),
-             ("run 2 until X", "run 2 until X"), ("delete", ""), ("ba", "back 1"), ("watch FOO BAR", ""), ("ba", "back 1"), ("watch cell 100", ""), ("b 3", ""),
-             ("back all", "back all"), ("run", "run 1000000 until cell 100 or loc 3"), ("", "run 1000000 until cell 100 or loc 3"), ("forth break", "forth break"), ("delete 1", "delete 1"),
-             ("d", ""), ("F", "forth 1"), ("display A", ""), ("n", ""), ("back all", "back all"), ("n", "step"), ("rs", "back 1"), ("RN 1", "back 1"), ("si", "step"),
-             ("advance 2", "run 1000000 until loc 2 or loc 3"), ("nexti 1", "step 1"), ("REVERSE-NEXT 2", "back 2"),
-             ("show writes rA", "show writes A"), ("show writes cell 100", "show writes cell 100"), ("di FOO BAR", ""), ("undisplay 1", "undisplay 1"), ("und", ""), ("un A", "run 1000000 until A or loc 3")]
+    lines = typed("person")
     terminal, output = aside()
     for line, _ in lines:
         terminal.said(line.replace("\t", " "))
@@ -122,7 +108,7 @@ def test_stopped(talk, folder):
     put = "0003  + 00 00 00 05 24  STA 0                  4  PUT STA X\n"
     halt = "0005  + 00 00 00 02 05  HLT                    6   HLT\n"
     for line, reply in (("b PUT", "ok\n"), ("run", "ran 2 to 0003 clock 3: until\nstopped by a breakpoint at 0003 PUT, line 4\n"),
-                        ("run 9 until rX or cell X", "ran 1 to 0004 clock 5: until\nstopped by cell X at 0004, line 5; took 2u\n"), ("n", f"ran 1 to 0005 clock 7: limit\n"),
+                        ("run 9 until rX or cell X", "ran 1 to 0004 clock 5: until\nstopped by cell X at 0004, line 5; took 2u\n"), ("n", "ran 1 to 0005 clock 7: limit\n"),
                         ("c", "ran 1 to 0006 clock 17: halt\ntook 10u\n"), ("back all", "back 5"), ("until loc PUT", f"until\nstopped by loc PUT at 0003 PUT, line 4\n{put}"),
                         ("b 0", "ok\n"), ("b PUT", "ok\n"), ("show breaks", "breaks\n0000 X, line 1: X CON 7\n0003 PUT, line 4: PUT STA X\n"),
                         ("u rX", f"until\nstopped by X at 0005, line 6; took 4u\n{halt}")):
@@ -139,16 +125,7 @@ SUBROUTINE = "X CON 7\nGO ENTA 5\n JMP PUT\n HLT\nPUT STJ EXIT\n STA X\nEXIT JMP
 def test_points(aside, ran, folder):
     """A person's breakpoints are no changes: runs wait for them, `back` takes none away, and setting one drops nothing that stands ahead."""
     (folder / "points.mixal").write_text(SUBROUTINE)
-    both = "run 1000000 until loc PUT or loc EXIT"
-    lines = [("b PUT", ""), ("break line 1", ""), ("break exit", ""), ("clear X", ""), ("s", "step"), ("back", "back 1"), ("b EXIT", ""), ("forth", "forth 1"), ("back all", "back all"),
-             ("run", both), ("run 9", "run 9 until loc PUT or loc EXIT"), ("finish", "run 1000000 until loc 3 or loc PUT or loc EXIT"), ("show changes", "show changes"),
-             ("back break", "back until loc PUT or loc EXIT"), ("clear PUT", ""), ("run 9 until A", "run 9 until A or loc EXIT"), ("b *", ""), ("back all", "back all"),
-             ("r", "run 1000000 until loc EXIT or loc 4"), ("", "run 1000000 until loc EXIT or loc 4"), ("back 1", "back 1"), ("watch rX", ""),
-             ("c", "run 1000000 until X or loc EXIT or loc 4"), ("delete", ""), ("b 10", ""), ("b 11", ""), ("b 12", ""), ("b 13", ""), ("b 14", ""), ("b 15", ""), ("b 16", ""),
-             ("watch A", ""), ("b 4", ""), ("back all", "back all"),
-             ("u A", "run 1000000 until A or loc EXIT or loc 10 or loc 11 or loc 12 or loc 13 or loc 14 or loc 15 or loc 4"), ("r", "run 1000000 until loc EXIT or loc 10 or loc 11 or loc 12 or loc 13 or loc 14 or loc 15 or loc 4"),
-             ("Clear All", ""), ("back break", "back break"), ("run", "run 1000000"), ("finish 1", "finish 1"), ("break", "break"), ("clear all 1", "clear all 1"),
-             ("show breaks", "show breaks")]
+    lines = typed("points")
     terminal, output = aside("points.mixal")
     most = "no more than eight are watched or are breakpoints; delete forgets those, clear all these\n"
     told = {"b 16": most, "watch A": most, "u A": f"run takes a number, 1 to 1000000, until COND, both or nothing\n{most}", "finish 1": "finish takes nothing; run until loc E stops at E\n", "break exit": "ok\n", "Clear All": "ok\n"}

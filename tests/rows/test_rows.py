@@ -1,0 +1,42 @@
+"""Rows of text that whole runs show. The name of a case is the place of its row: `-k "text.rows and lines"` takes those of a file and a kind.
+
+A row is `LIBRARY KIND |INPUT| WANTED`, where the input is one field or more, parted by bars. `\\t`, `\\n`, `\\r` and `\\xNN` are the bytes that they
+name. Each kind of row has a function that makes a run of the input, and reads from what the program writes what the row wants. The rows are files
+beside this one, *.rows; what is wanted there is from the book, or worked by hand from the rules in docs/. A row stands only where a run can show
+what it wants. Empty lines and those that begin with `#` are no rows."""
+import pathlib
+import shutil
+import tempfile
+
+import pytest
+
+from tests.rows import decks, expression_rows, line_rows, mixal, operation_rows, sources, steps, stream_rows, tool, word_rows
+from tests.rows.faces import Program
+
+PARTS = (line_rows, word_rows, operation_rows, mixal, expression_rows, sources, stream_rows, steps, decks, tool)
+KINDS = {kind: answer for part in PARTS for kind, answer in part.KINDS.items()}
+NEED_CC = {*stream_rows.KINDS, "run printed", "tool plan"}
+
+
+def rows():
+    """Each row: its kind, the fields of its input, and what is wanted."""
+    for file in sorted(pathlib.Path(__file__).parent.glob("*.rows")):
+        for number, line in enumerate(file.read_text().split("\n"), 1):
+            if line and not line.startswith("#"):
+                kind, rest = line.split("|", 1)
+                given, wanted = rest.rsplit("|", 1)
+                yield pytest.param(kind.strip(), given.split("|"), wanted.strip(), id=f"{file.name}:{number} {kind.strip()}")
+
+
+@pytest.fixture(scope="module")
+def shown(request):
+    """The program, with a folder for the files of its runs."""
+    with tempfile.TemporaryDirectory(dir="/dev/shm" if pathlib.Path("/dev/shm").is_dir() else None) as folder:
+        yield Program(request.config.getoption("--program"), folder)
+
+
+@pytest.mark.parametrize("kind, fields, wanted", rows())
+def test_row(shown, kind, fields, wanted):
+    if kind in NEED_CC and not shutil.which("cc"):
+        pytest.skip(f"{kind}: no C compiler is there")
+    assert KINDS[kind](shown, fields, wanted) == wanted
