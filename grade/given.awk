@@ -5,14 +5,14 @@ BEGIN {
     if (line ~ /^\* end of /) name = ""
     else if (line ~ /^\* /) { name = substr(line, 3); block[name] = "" }
     else if (name != "") block[name] = block[name] line "\n"
-    else if (split(line, word)) constant[word[1]] = line
+    else if (split(line, word)) constant[toupper(word[1])] = line
   }
 }
 { line = $0; sub(/\r$/, "", line) }
 open != "" && line != "* end of " open { next }
 { open = "" }
 line ~ /^\* / && (substr(line, 3) in block) { open = substr(line, 3); met[open]; print; printf "%s", block[open]; next }
-/^[^ \t*]/ && ($1 in constant) { met[$1]; print constant[$1]; next }
+/^[^ \t*]/ && (toupper($1) in constant) { met[toupper($1)]; print constant[toupper($1)]; next }
 { print }
 END {
   for (name in constant) if (!(name in met)) missing = name
