@@ -1,6 +1,9 @@
 """What the exercises of the course are made of: the numbers of a student, a case, and the files of grade/ that say it."""
 import hashlib
+import re
 import typing
+
+from running import COURSE
 
 
 class Draw:
@@ -39,13 +42,16 @@ class Draw:
 class Case(typing.NamedTuple):
     """What a program is given, and what it must leave: numbers in the cells that are named, or rows on a unit, the printer if no other is named.
 
-    `given` has a number for a symbol that EQU defines, a string for a cell that CON fills, and a list for the lines of a block of data. With `strict`
-    there is one case more, which ends before a step that uses cells of a transfer under way."""
+    `given` has a number for a symbol that EQU defines, a string for a cell that CON fills, and a list for the lines of a block of data. `always` has
+    limits that every run keeps, such as how often a subroutine is called; one more case asks for `limits` too. With `strict` one more allows no
+    step that uses cells of a transfer under way. If it has cells and `rows`, these are compared then."""
 
     given: dict
     wanted: list
     cells: tuple = ()
     limits: tuple = ()
+    always: tuple = ()
+    rows: tuple = ()
     cards: list = None
     deck: list = None
     told: str = ""
@@ -62,24 +68,28 @@ class Case(typing.NamedTuple):
                 yield f"{name:<7} {'EQU ' if isinstance(value, int) else 'CON '} {value}"
 
     def files(self, put, kind, weight):
-        """The files of the case, as grade/README.md describes them. A case of the kind `strict` has nothing in cells, so what is printed is compared."""
-        found = {"data": self.lines() if put and self.given else (), "cells": self.cells, "deck": self.deck, "cards": self.cards}
-        found["unit"] = () if self.cells else (self.unit,)
-        found["limits"], found["steps"], found["weight"] = self.limits if kind == "limits" else (), (self.steps,), (weight,)
-        if kind == "strict":
-            found["cells"], found["strict"] = (), ("a program waits for its units",)
-        files = {name: "".join(f"{line}\n" for line in lines) for name, lines in found.items() if lines}
-        return {"wanted": "".join(f"{line}\n" for line in (self.wanted if kind != "strict" or not self.cells else ())), **files}
+        """The files of the case, as grade/README.md describes them."""
+        found = {"data": self.lines() if put and self.given else (), "deck": self.deck, "cards": self.cards, "steps": (self.steps,), "weight": (weight,)}
+        if self.cells and not (kind == "strict" and self.rows):
+            more = {"limits": self.limits, "strict": ("conflicts = 0",), "": ()}[kind]
+            found.update(wanted=self.wanted, cells=self.cells, limits=(*self.always, *more))
+        else:
+            found.update(wanted=self.rows or self.wanted, unit=(self.unit,), strict=("a program waits for its units",) if kind == "strict" else ())
+        return {name: "".join(f"{line}\n" for line in lines) for name, lines in found.items() if lines or name == "wanted"}
 
 
 class Exercise(typing.NamedTuple):
-    """The folder of its lesson; what a program must keep and leave; the case that is made of a draw and a size; the sizes of the cases, of which the
-    student sees the last but one; instructions of its answer, each with a wrong one. With `put` false the data are what the student has to find, and
-    are wrong if the first two are exchanged."""
+    """The folder of its lesson; the case that is made of a draw and a size; the sizes of the cases, of which the student sees the last but one;
+    instructions of its answer, each with a wrong one. With `put` false the data are what the student has to find, and are wrong if the first two are
+    exchanged."""
 
     name: str
-    contract: str
     make: typing.Callable
     sizes: tuple
     wrong: tuple
     put: bool = True
+
+    def paragraph(self, word):
+        """The paragraph of the lesson that begins with a word: `Exercise.` asks, and `Checked:` says what a program must keep and leave."""
+        lesson = (COURSE / self.name / "README.md").read_text()
+        return " ".join(re.search(rf"^\*\*{word}\*\* (.*?)\n\n", lesson, re.S | re.M)[1].split())

@@ -1,12 +1,14 @@
 """The exercises of chapter 1: what their programs must leave, by Python's own numbers, lists, texts and divisions."""
 import re
 from fractions import Fraction
-from math import comb, factorial, lcm
+from math import factorial, gcd, isqrt, lcm
 
+from arithmetic import saddle_points
 from cards import cards_of
 from exercise import Case, Exercise
+from first_programs import eliminated, largest_sum
 from machine import CHARACTERS
-from matrices import saddle_points
+from permutations import fixed_numbers
 from subroutines import traced
 
 
@@ -15,11 +17,14 @@ def second_numbers(draw, n):
 
 
 def multiple(draw, size):
-    """Numbers with a large common divisor, so that their product need not fit into a word while their least multiple does. Neither divides the other."""
-    one = draw.number(2, 6 * size + 2) if size else 1
-    other = one * draw.number(1, 6) + draw.number(1, one - 1) if size else 1
+    """Numbers with a large common divisor: their product need not fit into a word, but their least multiple does, and is many times each of them."""
+    one = draw.number(4 * size, 6 * size + 2) if size else 1
+    other = one * draw.number(1, 6) + draw.one_of([k for k in range(1, one) if gcd(k, one) == 1]) if size else 1
     factor = draw.number(1, 64**5 // (one * other) - 1) if size else 1
-    return Case({"M": str(factor * other), "N": str(factor * one)}, [lcm(factor * other, factor * one)], ("LCM",))
+    above, below, divisions = other, one, 1
+    while above % below:
+        above, below, divisions = below, above % below, divisions + 1
+    return Case({"M": str(factor * other), "N": str(factor * one)}, [lcm(factor * other, factor * one)], ("LCM",), (f"clock <= {26 * divisions + 60}",))
 
 
 def recursive_fibonacci(draw, n):
@@ -27,7 +32,7 @@ def recursive_fibonacci(draw, n):
     one, two = 1, 1
     for _ in range(n - 1):
         one, two = two, one + two
-    return Case({"N": n}, [one, 2 * one - 1], ("RESULT", "CALLS"))
+    return Case({"N": n}, [one, 2 * one - 1], ("RESULT", "CALLS"), always=(f"FIB = {2 * one - 1}",))
 
 
 def degrees(draw, size):
@@ -48,32 +53,35 @@ def reversal(draw, n):
 
 
 def rotation(draw, n):
-    k, table = draw.number(1, n - 1), draw.numbers(n, 1, 9999)
-    return Case({"N": n, "K": k, "data": table}, table[-k:] + table[:-k], ("TABLE+1 TABLE+N",))
+    """Three reversals of a part move the first and the last entry twice, if no part has one entry alone."""
+    k, table = draw.number(1, n - 1), draw.distinct(n, 1, 999)
+    moves = ("writes TABLE+1 = 2", "writes TABLE+N = 2") if 1 < k < n - 1 else ()
+    return Case({"N": n, "K": k, "data": table}, table[-k:] + table[:-k], ("TABLE+1 TABLE+N",), always=("TURN = 3", *moves))
 
 
 def extremes(draw, n):
     """An entry takes 8u, if it is compared with the smallest at all, and a little more if it is a new one."""
     table = draw.numbers(n, 1, 999)
-    return Case({"N": n, "data": table}, [max(table), min(table)], ("A", "X"), (f"clock <= {9 * n + 60}",))
+    return Case({"N": n, "data": table}, [max(table), min(table)], ("A", "X"), (f"clock <= {8 * n + 45}",))
 
 
 def smallest_factors(draw, n):
+    """A prime strikes out each of its multiples from its square on in some 9u, whether that was done before or not."""
     n += draw.number(0, 9)
     wanted = [next((d for d in range(2, k) if k % d == 0), 0) for k in range(2, n + 1)]
-    return Case({"N": n}, wanted, ("TABLE+2 TABLE+N",))
+    struck = sum(n // d - d + 1 for d in range(2, isqrt(n) + 1) if not wanted[d - 2])
+    once = [f"writes TABLE+{k} = {int(wanted[k - 2] > 0)}" for k in (2, 30, 60, 90, 97, 101) if k <= n]
+    return Case({"N": n}, wanted, ("TABLE+2 TABLE+N",), (f"clock <= {11 * struck + 35 * isqrt(n) + 60}",), tuple(once))
 
 
 def last_man(draw, n):
     """A division for each man takes some 25u in any way; a circle takes 4u for each step along it, so more than 5 of these for each man. The last man of
     many is another one than of few."""
-    men = []
-    while not men or n >= 11 and men[0] <= n // 2:
-        m, men, at = draw.number(2 if n < 11 else 7, 12), list(range(1, n + 1)), 0
-        while len(men) > 1:
-            at = (at + m - 1) % len(men)
-            del men[at]
-    return Case({"N": n, "M": m}, men, ("LAST",), (f"clock <= {26 * n + 20}",))
+    last = 0
+    while not last or n >= 11 and last <= n // 2:
+        m = draw.number(2 if n < 11 else 7, 12)
+        last = eliminated(n, m)[-1]
+    return Case({"N": n, "M": m}, [last], ("LAST",), (f"clock <= {26 * n + 20}",))
 
 
 def all_saddle_points(draw, n):
@@ -90,13 +98,13 @@ def all_saddle_points(draw, n):
 def farey_lines(draw, n):
     n += draw.number(0, 3)
     series = sorted({Fraction(x, y) for y in range(1, n + 1) for x in range(y + 1)})
-    return Case({"N": n}, ["%05d  /  %05d" % (one.numerator, one.denominator) for one in series], deck=["%UNIT 18 delay 100"], steps=200000, strict=True)
+    """The two fractions before a fraction give it in some 20 steps, and a line takes a dozen and waits for some 100."""
+    rows = ["%05d  /  %05d" % (one.numerator, one.denominator) for one in series]
+    return Case({"N": n}, rows, deck=["%UNIT 18 delay 100"], steps=150 * len(rows) + 200, strict=True)
 
 
 def fixed_points(draw, n):
-    """Those that stay are chosen, and the others all moved."""
-    moved = [sum((-1) ** k * factorial(m) // factorial(k) for k in range(m + 1)) for m in range(n + 1)]
-    return Case({"N": n}, [comb(n, k) * moved[n - k] for k in range(n + 1)], ("TALLY TALLY+N",))
+    return Case({"N": n}, fixed_numbers(n), ("TALLY TALLY+N",), always=(f"COUNT = {factorial(n)}",))
 
 
 def longest_inverse(draw, size):
@@ -111,7 +119,8 @@ def three_exits(draw, n):
         above[0], below[:3] = 7 * draw.number(1, 60) + draw.number(1, 6), [-7, 0, 1]
     left = [(abs(one) % abs(other) * (-1 if one < 0 else 1)) if other else 0 for one, other in zip(above, below)]
     whole = sum(other != 0 and one % other == 0 for one, other in zip(above, below))
-    return Case({"N": n, "above": above, "below": below}, [below.count(0), whole, *left], ("I4", "I5", "REMS+1 REMS+N"))
+    exits = (f"REMAIN = {n}", f"NONE = {below.count(0)}", f"WHOLE = {whole}", f"OTHER = {n - whole - below.count(0)}")
+    return Case({"N": n, "above": above, "below": below}, [below.count(0), whole, *left], ("I4", "I5", "REMS+1 REMS+N"), always=exits)
 
 
 def swapped_text(draw, n):
@@ -119,7 +128,10 @@ def swapped_text(draw, n):
     swapped = re.sub(r"([^.])([^.])", r"\2\1", text)
     digits = "".join("%02d" % CHARACTERS.index(one) for one in text)
     card = "".join(digit + " " * (draw.number(0, 3) == 0) for digit in digits)
-    return Case({}, [" ".join(swapped[at : at + 4] for at in range(0, len(swapped), 4))], deck=["%UNIT 16 delay 100", card], strict=True)
+    groups = [swapped[at : at + 4] for at in range(0, len(swapped), 4)]
+    words = [sum(CHARACTERS.index(one) * 64 ** (4 - at) for at, one in enumerate(group)) for group in groups]
+    joints = [limit for name in ("TAKE", "GIVE", "TAKE2", "GIVE2") for limit in (f"{name}X = {len(text)}", f"writes {name}X >= {int(n > 1)}")]
+    return Case({}, words, (f"LINE LINE+{len(words) - 1}",), deck=["%UNIT 16 delay 100", card], strict=True, always=tuple(joints), rows=(" ".join(groups),))
 
 
 def squares(draw, n):
@@ -153,19 +165,16 @@ def traced_values(draw, n):
 def two_buffers(draw, n):
     """With the most cards the reader is slower than the work on a card, so each card is waited for."""
     work = draw.number(20, 120)
-    numbers, delay = draw.numbers(n, 0, 99999), 20 + 2 * work + (draw.number(-20, 0) if n < 12 else draw.number(5, 60))
+    numbers, delay = draw.numbers(n, 0, 99999), 20 + 2 * work + (draw.number(-20, 0) if n < 12 else draw.number(30, 80))
     waited = (n - 1) * max(0, delay - 20 - 2 * work)
-    return Case({"N": n, "WORK": work}, [sum(numbers)], ("SUM",), (f"clock <= {delay + waited + n * (26 + 2 * work) + 12}",),
+    return Case({"N": n, "WORK": work}, [sum(numbers)], ("SUM",), always=(f"clock <= {delay + waited + n * (26 + 2 * work) + 12}",),
                 deck=[f"%UNIT 16 delay {delay}", *("%010d" % number for number in numbers)], strict=True)
 
 
 def fibonacci(draw, size):
     """A sequence in which each number is the sum of the two before; the first two are not the largest that fit, at any size."""
     first, second = (1, 1) if size == 0 else sorted(draw.numbers(2, 1, 10 ** (2 * size)))
-    before, number, index = first, second, 2
-    while before + number < 64**5:
-        before, number, index = number, before + number, index + 1
-    return Case({"FIRST": str(first), "SECOND": str(second)}, [number, index], ("RESULT", "INDEX"))
+    return Case({"FIRST": str(first), "SECOND": str(second)}, largest_sum(first, second), ("RESULT", "INDEX"))
 
 
 def checked_sum(draw, n):
@@ -180,48 +189,26 @@ def punched(draw, n):
 
 
 EXERCISES = [
-    Exercise("00_first_hour", "SUM gets the sum of N, N-2, N-4 and so on, as long as these numbers are positive.",
-             second_numbers, (1, 2, 9, 40, 77), (("DEC1 2", "DEC1 1"), ("J1P  LOOP", "J1NZ LOOP"), ("HLT", "NOP"))),
-    Exercise("01_euclid", "The cells M and N hold positive numbers. LCM gets their least common multiple, which fits into a word.",
-             multiple, (0, 1, 2, 3, 4, 5), (("MUL  N", "MUL  M"), ("SRAX 5", "SLAX 5"))),
-    Exercise("02_degrees", "The cell FAHREN has the degrees. RESULT gets the nearest whole number of degrees Celsius.",
-             degrees, (0, 1, 2, 3, 4, 5, 6), (("JLE  1F", "JL   1F"), ("JGE  2F", "JMP  2F"), ("JLE  1F", "JMP  1F"))),
-    Exercise("03_fields", "The word at DATE keeps its year; its day and its month are exchanged.", fields, (0, 1, 2), (("LDX  DATE(2:2)", "LDX  DATE(1:1)"),)),
-    Exercise("04_reversal", "The table of N entries from TABLE+1 on is reversed.", reversal, (1, 2, 3, 8, 31), (("J1P  SWAP", "J1NN SWAP"),)),
-    Exercise("10_rotation", "The table of N entries from TABLE+1 on is rotated K positions to the right.",
-             rotation, (2, 3, 7, 20), (("ENT2 K", "ENT2 K-1"),)),
-    Exercise("11_maximum", "At the halt rA has the largest of the N entries from TABLE+1 on, and rX the smallest.",
-             extremes, (1, 2, 12, 90), (("JLE  NEXT", "JGE  NEXT"),)),
-    Exercise("12_sieve", "For each k from 2 to N, TABLE+k gets the smallest prime factor of k, or 0 if k is prime.",
-             smallest_factors, (2, 130, 140, 110, 150), (("JANZ 1F", "JAZ  1F"),)),
-    Exercise("13_josephus", "LAST gets the number of the last of N men, of whom every M-th leaves the circle.", last_man, (1, 2, 11, 24), (("INCX M", "INCX M-1"),)),
-    Exercise("14_saddle_point", "The matrix has M rows of N elements each, from A+1 on, row by row. COUNT gets the number of its saddle points, and POINTS+1, POINTS+2 "
-             "and so on get their numbers, the last one first: the element in row i and column j has the number N(i-1)+j.", all_saddle_points, (2, 3, 5, 9),
-             (("CMPA MAX,1", "CMPA A,3"), ("JLE  1B", "JGE  1B"))),
-    Exercise("15_farey", "The Farey series of order N, which is at least 2, is printed: on each line five digits, then two blanks, a slash and two blanks, and five "
-             "digits.", farey_lines, (2, 5, 9, 20), (("INC1 2", "INC1 1"), ("INCX N", "INCX N-1"))),
-    Exercise("17_cycles_counted", "TALLY+k gets the number of permutations of N things that leave k of them fixed, for k from 0 to N.",
-             fixed_points, (1, 2, 3, 4, 5), (("JNE  1F", "JE   1F"),)),
-    Exercise("18_inverse", "The program of the lesson is kept. Its N and its data are the permutation of N numbers that takes it the longest.",
-             longest_inverse, (0,), (), put=False),
-    Exercise("20_entrances_exits", "For k from 1 to N, REMS+k gets the remainder of ABOVE+k divided by BELOW+k, or 0 if BELOW+k is 0. At the halt rI4 "
-             "says how many divisors are 0, and rI5 how many divisions leave no remainder.", three_exits, (1, 5, 20), (("JXZ  1,3", "JXZ  2,3"),)),
-    Exercise("21_recursion", "RESULT gets the Fibonacci number F(N), by a subroutine that calls itself for N-1 and for N-2 if N is larger than 2. CALLS gets how "
-             "often it is called.", recursive_fibonacci, (1, 3, 5, 8, 12), (("LD1  STACK,6(4:5)", "NOP  STACK,6(4:5)"), ("ADD  STACK-1,6", "LDA  STACK-1,6"))),
-    Exercise("22_coroutines", "The text of one card is printed as the lesson says, but each two of its characters are exchanged.",
-             swapped_text, (0, 1, 2, 9, 21), (("STA  LINE,2(2:2)", "STA  LINE,2(3:3)"),)),
-    Exercise("23_interpreter", "Your program for the small machine begins with the label CODE and prints the squares of N, N-1 and so on to 1, ten digits on a "
-             "line. It is between the comments * code and * end of code, and uses the names PUSH, TIMES and so on of the lesson, and COPY. Other programs "
-             "for the small machine are put there too, and have to print what they should.", squares, (0, 1, 0, 4, 0), (("JMP  DOCOPY", "JMP  DOPUSH"),)),
-    Exercise("24_trace", "The traced program is in the cells from 1000 on, between the comments * program and * end of program, and begins at PROG. TABLE+k gets "
-             "the location of its instruction k, and VALUES+k what rA holds before it. Other programs are put there too.", traced_values, (0, 1, 3, 0, 2, 0),
-             (("JMP  DO", "JMP  INSTR"), ("J6NN DO", "J6P  DO"))),
-    Exercise("25_buffers", "SUM gets the sum of the numbers in columns 1 to 10 of N cards. Each card needs WORK rounds of 2u of other work.",
-             two_buffers, (1, 2, 6, 12), (("ENN3 -16,3", "ENN3 0,3"), ("JBUS *(READER)", "NOP  *(READER)"))),
-    Exercise("05_overflow", "The cells FIRST and SECOND hold the first two numbers of a sequence; each later number is the sum of the two before it. RESULT "
-             "gets the largest one below 64^5, and INDEX its index.", fibonacci, (0, 1, 4, 2, 3), (("JOV  DONE", "JNOV DONE"),)),
-    Exercise("16_hunt", "SUM gets the sum of the N numbers from TABLE+1 on, or -1 if it does not fit into a word.",
-             checked_sum, (4, 5, 10, 11), (("JOV  *+1", "NOP  *+1"),)),
-    Exercise("06_loader", "The N words from WORDS+1 on, none of which is 0 or negative, are punched as cards for the loader, which puts them into the cells "
-             "from TO on and begins there.", punched, (1, 7, 8, 20), (("CMP3 =14=", "CMP3 =12="),)),
+    Exercise("00_first_hour", second_numbers, (1, 2, 9, 40, 77), (("DEC1 2", "DEC1 1"), ("J1P LOOP", "J1NZ LOOP"), ("HLT", "NOP"))),
+    Exercise("01_euclid", multiple, (0, 1, 2, 3, 4, 5), (("MUL N", "MUL M"), ("SRAX 5", "SLAX 5"))),
+    Exercise("02_degrees", degrees, (0, 1, 2, 3, 4, 5, 6), (("JLE 1F", "JL 1F"), ("JGE 2F", "JMP 2F"), ("JLE 1F", "JMP 1F"))),
+    Exercise("03_fields", fields, (0, 1, 2), (("LDX DATE(2:2)", "LDX DATE(1:1)"),)),
+    Exercise("04_reversal", reversal, (1, 2, 3, 8, 31), (("J1P SWAP", "J1NN SWAP"),)),
+    Exercise("10_rotation", rotation, (2, 3, 7, 20), (("ENT2 K", "ENT2 K-1"),)),
+    Exercise("11_maximum", extremes, (1, 2, 12, 90), (("JLE NEXT", "JGE NEXT"),)),
+    Exercise("12_sieve", smallest_factors, (2, 130, 140, 110, 150), (("JANZ 1F", "JAZ 1F"),)),
+    Exercise("13_josephus", last_man, (1, 2, 11, 24), (("INCX M", "INCX M-1"),)),
+    Exercise("14_saddle_point", all_saddle_points, (2, 3, 5, 9), (("CMPA MAX,1", "CMPA A,3"), ("JLE 1B", "JGE 1B"))),
+    Exercise("15_farey", farey_lines, (2, 5, 9, 20), (("INC1 2", "INC1 1"), ("INCX N", "INCX N-1"))),
+    Exercise("17_cycles_counted", fixed_points, (1, 2, 3, 4, 5), (("JNE 1F", "JE 1F"),)),
+    Exercise("18_inverse", longest_inverse, (0,), (), put=False),
+    Exercise("20_entrances_exits", three_exits, (1, 5, 20), (("JXZ 1,3", "JXZ 2,3"),)),
+    Exercise("21_recursion", recursive_fibonacci, (1, 3, 5, 8, 12), (("LD1 STACK,6(4:5)", "NOP STACK,6(4:5)"), ("ADD STACK-1,6", "LDA STACK-1,6"))),
+    Exercise("22_coroutines", swapped_text, (0, 1, 2, 9, 21), (("STA LINE,2(2:2)", "STA LINE,2(3:3)"),)),
+    Exercise("23_interpreter", squares, (0, 1, 0, 4, 0), (("JMP DOCOPY", "JMP DOPUSH"),)),
+    Exercise("24_trace", traced_values, (0, 1, 3, 0, 2, 0), (("JMP DO", "JMP INSTR"), ("J6NN DO", "J6P DO"))),
+    Exercise("25_buffers", two_buffers, (1, 2, 6, 12), (("ENN3 -16,3", "ENN3 0,3"), ("JBUS *(READER)", "NOP *(READER)"))),
+    Exercise("05_overflow", fibonacci, (0, 1, 4, 2, 3), (("JOV DONE", "JNOV DONE"),)),
+    Exercise("16_hunt", checked_sum, (4, 5, 10, 11), (("JOV *+1", "NOP *+1"),)),
+    Exercise("06_loader", punched, (1, 7, 8, 20), (("CMP3 =14=", "CMP3 =12="),)),
 ]

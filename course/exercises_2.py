@@ -1,35 +1,30 @@
 """The exercises of chapter 2: what their programs must leave, by Python's lists, dictionaries and recursion."""
 from exercise import Case, Exercise
-from linked_lists import list_lines, moved_to_the_left, served
+from linked_lists import list_lines, moved_to_the_left, queued, served
 from stacks import coded, taken
-from trees import reached
+from trees import drawn_tree, inorder, lines, reached
 
 
 def full_queue(draw, n):
     """The queue gets full at once, and is empty at the end; between them all may come."""
     room = draw.number(2, 6) + n // 2
-    operations = [*range(11, 12 + room), *(draw.one_of((0, 20 + k)) for k in range(n)), *[0] * (room + 1)]
-    waiting, out, vain = [], [], 0
-    for number in operations:
-        if number and len(waiting) < room:
-            waiting.append(number)
-        elif not number and waiting:
-            out.append(waiting.pop(0))
-        else:
-            vain += 1
-    return Case({"M": room, "data": [*operations, -1]}, [vain, *out, 0], ("I6", f"TAKEN+1 TAKEN+{len(out) + 1}"), (f"clock <= {20 * len(operations) + 40}",))
+    operations = [*range(11, 12 + room), *(draw.one_of((0, 100 + k)) for k in range(n)), *[0] * (room + 1)]
+    out, over, under, _ = queued(operations, room)
+    circle = ("writes QUEUE = 0", *(f"writes QUEUE+{k} >= 1" for k in range(1, room + 1)), f"writes QUEUE+{room + 1} = 0")
+    taken = f"TAKEN+1 TAKEN+{len(out) + 1}"
+    return Case({"M": room, "data": [*operations, -1]}, [over + under, *out, 0], ("I6", taken), (f"clock <= {20 * len(operations) + 40}",), circle)
 
 
 def circle_left(draw, n):
-    """A row of things, each before the next; the last of them comes before a circle, which leads to others."""
+    """A row of things, each before the next; the last of them comes before a circle, which leads to others. No thing and no relation takes over 35u."""
     things = draw.shuffled(range(1, n + 1))
     row, circle, after = things[: n // 3], things[n // 3 : 2 * n // 3], things[2 * n // 3 :]
     relations = [*zip(row, row[1:]), *zip(circle, [*circle[1:], circle[0]]), *((circle[-1], one) for one in after)]
     relations += [(row[-1], draw.one_of(circle))] if row else []
     left = sorted(circle + after, reverse=True)
     lines = [f"        CON  {j}(1:2),{k}(4:5)" for j, k in draw.shuffled(relations)]
-    shown = ("ROW+1 ROW+N", "LEFT+1 LEFT+N")
-    return Case({"N": n, "M": len(relations), "data": lines}, [*row, *[0] * (n - len(row)), *left, *[0] * (n - len(left))], shown)
+    shown, limit = ("ROW+1 ROW+N", "LEFT+1 LEFT+N"), f"clock <= {35 * n + 35 * len(relations) + 60}"
+    return Case({"N": n, "M": len(relations), "data": lines}, [*row, *[0] * (n - len(row)), *left, *[0] * (n - len(left))], shown, (limit,))
 
 
 def given_back(draw, n):
@@ -53,23 +48,14 @@ def given_back(draw, n):
 
 
 def two_clerks(draw, n):
-    comes, needs = sorted(draw.distinct(n, 0, 6 * n)), draw.numbers(n, 1, 20)
+    """Whole thousands, so that a clock that goes on by 1 takes too long."""
+    comes, needs = [1000 * time for time in sorted(draw.distinct(n, 0, 6 * n))], [1000 * time for time in draw.numbers(n, 1, 20)]
     return Case({"N": n, "comes": comes, "needs": needs}, served(comes, needs, 2), ("BEGINS+1 BEGINS+N",))
 
 
-def grown(draw, names, tree):
-    """A tree of these nodes: of each its left and right nodes, and a letter; the node at its root."""
-    if not names:
-        return 0
-    left = draw.number(0, len(names) - 1)
-    tree[names[0]] = (grown(draw, names[1 : left + 1], tree), grown(draw, names[left + 1 :], tree), draw.number(1, 39))
-    return names[0]
-
-
 def tree_of(draw, n):
-    tree = {}
-    root = grown(draw, draw.shuffled(range(1, n + 1)), tree)
-    return tree, root, {"N": n, "ROOT": root, "data": ["        CON  %d(1:2),%d(3:4),%d(5:5)" % tree[node] for node in sorted(tree)]}
+    tree, root = drawn_tree(draw.shuffled(range(1, n + 1)), draw.number)
+    return tree, root, {"N": n, "ROOT": root, "data": lines(tree)}
 
 
 def preorder(draw, n):
@@ -80,10 +66,6 @@ def preorder(draw, n):
         letters.append(letter)
         waiting += [node for node in (right, left) if node]
     return Case(given, letters, ("ORDER+1 ORDER+N",))
-
-
-def inorder(tree, node):
-    return inorder(tree, tree[node][0]) + [node] + inorder(tree, tree[node][1]) if node else []
 
 
 def threads(draw, n):
@@ -114,34 +96,27 @@ def removed_tops(draw, n):
         orders += [(stack, draw.number(1, 4000)) for stack in filled] + [(stack, 0) for stack in draw.shuffled([*filled, *range(stacks)])]
     bases = [1000 + k * room // stacks for k in range(stacks)] + [1000 + room]
     gone = taken(orders, stacks)
-    return Case({"N": stacks, "ROOM": room, "bases": bases, "data": coded(orders)}, gone, (f"TAKEN+1 TAKEN+{len(gone)}",), steps=100000)
+    used = ("writes 1000 = 0", *(f"writes {cell} >= 1" for cell in range(1001, 1001 + room)), f"writes {1001 + room} = 0")
+    return Case({"N": stacks, "ROOM": room, "bases": bases, "data": coded(orders)}, gone, (f"TAKEN+1 TAKEN+{len(gone)}",), always=used, steps=100000)
 
 
 def rows_in_both_directions(draw, n):
     names = draw.distinct(n, 1, 999)
     orders = [*names[: n // 2 + 1], *(-draw.one_of(names) for _ in range(n // 2)), *names[n // 2 + 1 :], -names[0], -names[n // 2], -1000]
     row = moved_to_the_left(orders)
-    return Case({"M": n + 1, "data": [*orders, 0]}, [*row, *row[::-1]], (f"ROW+1 ROW+{n}", f"BACK+1 BACK+{n}"))
+    links = tuple(f"writes NODES+{2 * k - 1} >= 2" for k in range(1, n + 1))
+    return Case({"M": n + 1, "data": [*orders, 0]}, [*row, *row[::-1]], (f"ROW+1 ROW+{n}", f"BACK+1 BACK+{n}"), always=links)
 
 
 EXERCISES = [
-    Exercise("30_queue", "The queue has room for M numbers. A number from OPS+1 on is inserted; 0 removes one, into TAKEN+1 and so on; -1 is the end. "
-             "At the halt rI6 is the number of overflows and underflows.", full_queue, (0, 9, 25), (("JE   AMISS", "JG   AMISS"),)),
-    Exercise("31_repacking", "N stacks share the ROOM cells behind the first base, BASE+1; the next bases follow, and BASE+N+1 is the end of the room. An order from "
-             "OPS+1 on has a stack in byte 1 and a number in bytes 4 and 5, which is pushed; 0 removes the top of the stack, if it has one, and TAKEN+1 and "
-             "so on get what is removed. The word 0 is the end.", removed_tops, (1, 3, 9, 20), (("JE   NEXT", "NOP  NEXT"), ("STA  1,4", "STA  0,4"), ("CMP3 =N=", "CMP3 =N-1="))),
-    Exercise("32_topological_sort", "The things that can be sorted are in ROW+1 and so on, in their order; those that are left over are in LEFT+1 and so "
-             "on, the largest number first. The other cells of both tables are 0.", circle_left, (3, 9, 18), (("JAZ  2F", "JANZ 2F"),)),
-    Exercise("33_polynomials", "P is added to Q as in the lesson. Then all nodes of P are free: rI6 has the first of them, and the head of P leads to what "
-             "was free before. The time of this does not depend on P.", given_back, (1, 3, 12), (("ST6  P+1(4:5)", "ST5  P+1(4:5)"),)),
-    Exercise("34_double_links", "M nodes are free at first. A number from OPS+1 on is inserted at the right end; -k moves the node of k to the left end, if there is "
-             "one; 0 is the end. Then ROW+1 and so on get the numbers from left to right, and BACK+1 and so on from right to left.", rows_in_both_directions,
-             (3, 8, 20), (("ST1  1,2(4:5)", "NOP  1,2(4:5)"), ("ST2  1,3(1:2)", "NOP  1,3(1:2)"), ("ST3  1,2(4:5)", "NOP  1,2(4:5)"))),
-    Exercise("35_counter", "BEGINS+k gets the time at which person k of N is served, if there are two clerks.",
-             two_clerks, (1, 2, 6, 20), (("JGE  READY", "JG   READY"),)),
-    Exercise("40_tree_stack", "The letters of the N nodes are in ORDER+1 and so on, in preorder.", preorder, (1, 2, 8, 20), (("LD1  TREE,1(1:2)", "LD1  TREE,1(3:4)"),)),
-    Exercise("41_tree_threads", "Each of the N nodes without a right subtree gets its thread, with the sign -; the last one in inorder leads to 0.",
-             threads, (1, 2, 8, 20), (("J4Z  3F", "J4NZ 3F"),)),
-    Exercise("42_marking", "AVAIL gets the number of the first node that ROOT does not reach, or 0. In ascending order these nodes are linked by their bytes "
-             "1 and 2, and are 0 otherwise. All other nodes are as they were given.", free_nodes, (1, 2, 9, 25), (("JAP  4F", "JANP 4F"),)),
+    Exercise("30_queue", full_queue, (0, 9, 25), (("JE AMISS", "JG AMISS"),)),
+    Exercise("31_repacking", removed_tops, (1, 3, 9, 20), (("JE NEXT", "NOP NEXT"), ("STA 1,4", "STA 0,4"), ("CMP3 =N=", "CMP3 =N-1="))),
+    Exercise("32_topological_sort", circle_left, (3, 9, 18), (("JAZ 2F", "JANZ 2F"),)),
+    Exercise("33_polynomials", given_back, (1, 3, 12), (("ST6 P+1(4:5)", "ST5 P+1(4:5)"),)),
+    Exercise("34_double_links", rows_in_both_directions, (3, 8, 20),
+             (("ST1 1,2(4:5)", "NOP 1,2(4:5)"), ("ST2 1,3(1:2)", "NOP 1,3(1:2)"), ("ST3 1,2(4:5)", "NOP 1,2(4:5)"))),
+    Exercise("35_counter", two_clerks, (1, 2, 6, 20), (("JGE READY", "JG READY"),)),
+    Exercise("40_tree_stack", preorder, (1, 2, 8, 20), (("LD1 TREE,1(1:2)", "LD1 TREE,1(3:4)"),)),
+    Exercise("41_tree_threads", threads, (1, 2, 8, 20), (("J4Z 3F", "J4NZ 3F"),)),
+    Exercise("42_marking", free_nodes, (1, 2, 9, 25), (("JAP 4F", "JANP 4F"),)),
 ]

@@ -1,37 +1,27 @@
 """The exercises of chapters 5 and 6: what their programs must leave, by Python's sort, pairs of keys, and places in a list."""
 import functools
 
-from balancing import height, inserted as balanced, lean
-from deleting import columns_of, deleted, grown, subtree
+from deleting import columns_of, deleted, grown, inserted, lazily, subtree
 from exercise import Case, Exercise
 from machine import CHARACTERS
-from probing import inserted, lazily
 from searching import doubly_hashed, probes
-from sorting import rightmost
+from sorting import inversions, passes, rightmost
+from trees import height, inserted as balanced, lean
 
 
 def stable_words(draw, n):
     """An insertion takes 9u to 11u for each word that is moved, and some 12u for each word."""
     words = [(at % 63 + 1, draw.number(1, 6) * 10) for at in range(n)]
-    moved = sum(one > other for at, (_, one) in enumerate(words) for _, other in words[at + 1 :])
     return Case({"N": n, "data": [f"        CON  {letter}(1:1),{key}(4:5)" for letter, key in words]},
                 [letter * 64**4 + key for letter, key in sorted(words, key=lambda word: word[1])], ("KEY+1 KEY+N",),
-                (f"clock <= {11 * moved + 14 * n + 20}",))
+                (f"clock <= {11 * inversions([key for _, key in words]) + 14 * n + 20}",))
 
 
 def three_increments(draw, n):
     """The clock by the times in square brackets: each pass moves a key once for each larger one before it in its part."""
     keys = draw.distinct(n, 10, 999)
-    table, taken, moves, firsts = list(keys), 0, 0, 0
-    for h in (7, 3, 1):
-        parts = [table[at::h] for at in range(h)]
-        taken += n - h
-        for part in parts:
-            moves += sum(one > other for at, one in enumerate(part) for other in part[at + 1 :])
-            firsts += sum(one < min(part[:at]) for at, one in enumerate(part) if at)
-        for at, part in enumerate(parts):
-            table[at::h] = sorted(part)
-    return Case({"N": n, "data": keys}, sorted(keys), ("KEY+1 KEY+N",), (f"clock = {32 + 14 * taken + 10 * moves - 3 * firsts}",))
+    found = passes(keys, (7, 3, 1))
+    return Case({"N": n, "data": keys}, sorted(keys), ("KEY+1 KEY+N",), always=(f"clock = {32 + 14 * (3 * n - 11) + 10 * found['B'] - 3 * found['A']}",))
 
 
 def keys_in_order(draw, n):
@@ -42,17 +32,40 @@ def keys_in_order(draw, n):
                 told=f"Your N is {n}. Your keys are {', '.join(map(str, keys))}, in another order.")
 
 
+def sift(keys, at, size):
+    """Lets a key of the first ones go down to where its children are smaller."""
+    while (child := 2 * at + 1) < size:
+        child += child + 1 < size and keys[child + 1] > keys[child]
+        if keys[child] < keys[at]:
+            break
+        keys[at], keys[child] = keys[child], keys[at]
+        at = child
+
+
 def three_largest(draw, n):
-    """No key goes down further than the levels below it; 20u are the most for a level."""
+    """No key goes down further than the levels below it; 20u are the most for a level. The other keys are left as a heap."""
     keys, levels = draw.distinct(n, 1, 999), sum(20 * (n.bit_length() - k.bit_length()) + 18 for k in range(1, n // 2 + 1))
-    return Case({"N": n, "data": keys}, sorted(keys)[-3:], ("KEY+N-2 KEY+N",), (f"clock <= {levels + 3 * (20 * n.bit_length() + 25) + 20}",))
+    table = list(keys)
+    for at in range(n // 2 - 1, -1, -1):
+        sift(table, at, n)
+    for last in (n - 1, n - 2, n - 3):
+        table[0], table[last] = table[last], table[0]
+        sift(table, 0, last)
+    return Case({"N": n, "data": keys}, table, ("KEY+1 KEY+N",), (f"clock <= {levels + 3 * (20 * n.bit_length() + 25) + 20}",))
 
 
 def selected(draw, n):
-    """A comparison takes 5u, and 3u more if it finds a larger key; each of the other N-1 rounds takes some 13u."""
+    """A comparison takes 5u, and 3u more if it finds a larger key; each of the other N-1 rounds takes some 13u. The exchanges alone alter the table."""
     keys = draw.distinct(n, 1, 999)
     larger = sum(one > max(others) for last in range(n, 1, -1) for others, one in rightmost(keys, last))
-    return Case({"N": n, "data": keys}, sorted(keys), ("KEY+1 KEY+N",), (f"clock <= {5 * n * (n - 1) // 2 + 3 * larger + 16 * n + 20}",))
+    table, moves = list(keys), [0] * n
+    for last in range(n - 1, 0, -1):
+        at = table.index(max(table[: last + 1]))
+        table[at], table[last] = table[last], table[at]
+        for one in (at, last):
+            moves[one] += at < last
+    writes = tuple(f"writes KEY+{k} = {count}" for k, count in enumerate(moves, 1))
+    return Case({"N": n, "data": keys}, sorted(keys), ("KEY+1 KEY+N",), (f"clock <= {5 * n * (n - 1) // 2 + 3 * larger + 16 * n + 20}",), writes)
 
 
 def keys_of_two_words(draw, n):
@@ -62,11 +75,12 @@ def keys_of_two_words(draw, n):
 
 
 def keys_in_table(draw, n):
+    """A key takes at most 14u each time that its list is merged, and 35u besides; if it is inserted into one list, it passes a quarter of the others."""
     keys = draw.distinct(n, 1, 999)
     order = [0, *sorted(range(1, n + 1), key=lambda k: keys[k - 1]), 0]
     links = dict(zip(order, order[1:]))
     return Case({"N": n, "data": keys}, [links[0], *keys, *(links[k] for k in range(1, n + 1)), *sorted(keys)],
-                ("LINK", "KEY+1 KEY+N", "LINK+1 LINK+N", "TABLE+1 TABLE+N"))
+                ("LINK", "KEY+1 KEY+N", "LINK+1 LINK+N", "TABLE+1 TABLE+N"), (f"clock <= {14 * n * (n - 1).bit_length() + 35 * n + 20}",))
 
 
 def last_two_digits(draw, n):
@@ -74,7 +88,7 @@ def last_two_digits(draw, n):
     order = sorted(range(1, n + 1), key=lambda k: keys[k - 1][1:])
     links = dict(zip([0, *order], [*order, 0]))
     return Case({"N": n, "data": ["        CON  %d(3:3),%d(4:4),%d(5:5)" % key for key in keys]}, [links[k] for k in range(n + 1)], ("LINK LINK+N",),
-                (f"clock <= {50 * n + 700}",))
+                (f"clock <= {50 * n + 800}",))
 
 
 def two_at_once(draw, n):
@@ -114,8 +128,8 @@ def fewest_comparisons(draw, size):
 
 def opposite_order(draw, n):
     n, m = n + draw.number(0, 4), 2 * n + 1 + draw.number(0, 6)
-    keys = draw.distinct(n, m, 999)
-    while inserted(keys, m) == inserted(keys[::-1], m) or keys[-1] % m != keys[-2] % m:
+    keys = []
+    while not keys or inserted(keys[::-1], m) in (inserted(row, m) for row in (keys, sorted(keys), sorted(keys)[::-1])) or keys[-1] % m != keys[-2] % m:
         keys = draw.distinct(n, m, 999)
     looked, rounds = probes(sorted(keys), m)
     return Case({"N": n, "M": m, "data": keys[::-1]}, inserted(keys[::-1], m), ("TABLE TABLE+M-1",), (f"clock = {12 + 24 * n + 8 * looked + 2 * rounds}",),
@@ -181,39 +195,21 @@ def sorted_cards(draw, n):
 
 
 EXERCISES = [
-    Exercise("50_insertion", "The N words from KEY+1 on are sorted by bytes 4 and 5 alone; words that agree in them keep their order.",
-             stable_words, (2, 3, 8, 30), (("JLE  PLACE", "JL   PLACE"),)),
-    Exercise("51_shell", "The program of the lesson is kept, with the increments 7, 3 and 1. The N keys from KEY+1 on are sorted.", three_increments, (16, 25, 40), (("CON  3", "CON  9"),)),
-    Exercise("52_bubble", "The N keys from KEY+1 on, at least two, are sorted by selection, with at most N-1 exchanges.", selected, (2, 3, 9, 40),
-             (("JGE  2F", "JLE  2F"), ("ENT3 0,2", "ENT3 0,1"))),
-    Exercise("53_quicksort", "The program of the lesson is kept. Its N and its data are your keys, in increasing order.", keys_in_order, (8,), (), put=False),
-    Exercise("55_heapsort", "KEY+N-2 to KEY+N get the three largest of the N keys from KEY+1 on.", three_largest, (4, 10, 40), (("CMP2 =N-3=", "CMP2 =N-2="),)),
-    Exercise("56_list_merge", "The N keys from KEY+1 on stay there. LINK leads to the smallest of them, LINK+k from key k to the next, the last to 0. "
-             "TABLE+1 to TABLE+N get the keys in their order.", keys_in_table, (2, 4, 8, 16), (("STA  TABLE,2", "STA  TABLE-1,2"),)),
-    Exercise("57_list_merge_sort", "ORDER+1 to ORDER+N get the numbers of the keys in ascending order. Key k is the word at HIGH+k, and if these agree that at "
-             "LOW+k. No two keys are equal.", keys_of_two_words, (3, 5, 16, 250), (("CMPX LOW,2", "CMPA LOW,2"), ("JL   FIRST", "NOP  FIRST"))),
-    Exercise("58_radix", "LINK leads to the smallest of the N keys by bytes 4 and 5 alone, LINK+k from key k to the next, the last to 0; keys that agree keep "
-             "their order.", last_two_digits, (1, 2, 8, 60), (("CMP6 =P=", "CMP6 =P+1="),)),
-    Exercise("60_sequential_search", "At the halt rI1 has the position of WANTED among the N keys from KEY+1 on, or 0 if it is not there.",
-             two_at_once, (1, 2, 9, 40), (("DEC1 2", "DEC1 1"),)),
-    Exercise("61_binary_search", "At the halt rI1 has the position of WANTED among the N keys from KEY+1 on, or 0 if it is not there. The table of halves from "
-             "HALVES+1 on is given.", by_halves, (1, 2, 7, 16, 17, 31, 30), (("DEC1 0,3", "DEC1 1,3"),)),
-    Exercise("62_search_tree", "The program of the lesson is kept. Its N and its data are your keys, in an order with the fewest comparisons; at the halt rI4 "
-             "has N.", fewest_comparisons, (0,), (), put=False),
-    Exercise("65_hashing", "The program of the lesson is kept. Its M, its N and its data are your keys, in the opposite order.",
-             opposite_order, (7,), (), put=False),
-    Exercise("63_tree_deletion", "Node k of a search tree is KEY+k with the links LEFT+k and RIGHT+k, and ROOT has the number of the root, or 0. The keys from GONE+1 "
-             "on, up to a 0, are deleted one after another: a node without a left subtree is replaced by its right one, otherwise the node before it in "
-             "order takes its place.", without_some, (1, 5, 9, 25), (("ST3  0,5", "ST2  0,5"), ("ST4  RIGHT,3", "NOP  RIGHT,3"), ("J4Z  2F", "JMP  2F"))),
-    Exercise("64_balanced_tree", "Node k of a balanced tree has its links in LEFT+k and RIGHT+k. BAL+k is negative if its left subtree is the higher one, positive if it is "
-             "the right one, and otherwise 0. ROOT has the number of the root, or 0. HEIGHT gets the number of levels.", levels, (0, 1, 2, 5, 20, 60),
-             (("JAN  2F", "JAP  2F"),)),
-    Exercise("66_chaining", "The cells TABLE to TABLE+M-1 get the N keys from KEYS+1 on by double hashing; an empty cell is 0, and a key that comes twice is "
-             "stored once. M is a prime, at least 5 and larger than N.", by_two_remainders, (1, 4, 10, 16, 34, 55), (("DIV  =M-2=", "DIV  =M-1="), ("INC2 M", "INC2 M-1"))),
-    Exercise("67_hash_deletion", "The table of M cells from TABLE on is empty at first. An order k from OPS+1 on inserts k, unless it is there, into the first cell of "
-             "its search that is 0 or -1; -k puts -1 into the cell of k, if it is there; 0 is the end.", lazy_orders, (1, 3, 9, 30),
-             (("J4NN BELOW", "NOP  BELOW"), ("JXN  FREED", "JXN  ABSENT"), ("ENNX 1", "ENTX 0"))),
-    Exercise("59_tapes", "The cards have different first words. They are printed in the order of these words; a card that begins with 99999 is the last and is "
-             "not printed. Tapes 0 to 3 are blank. There may be more words on the cards than the memory has cells.",
-             sorted_cards, (1, 2, 3, 12, 260), (("CMPX LAST", "CMPA LAST"),)),
+    Exercise("50_insertion", stable_words, (2, 3, 8, 30), (("JLE PLACE", "JL PLACE"),)),
+    Exercise("51_shell", three_increments, (16, 25, 40), (("CON 3", "CON 9"),)),
+    Exercise("52_bubble", selected, (2, 3, 9, 40), (("JGE 2F", "JLE 2F"), ("ENT3 0,2", "ENT3 0,1"))),
+    Exercise("53_quicksort", keys_in_order, (8,), (), put=False),
+    Exercise("55_heapsort", three_largest, (4, 10, 40), (("CMP2 =N-3=", "CMP2 =N-2="),)),
+    Exercise("56_list_merge", keys_in_table, (2, 4, 8, 90), (("STA TABLE,2", "STA TABLE-1,2"),)),
+    Exercise("57_list_merge_sort", keys_of_two_words, (3, 5, 16, 250), (("CMPX LOW,2", "CMPA LOW,2"), ("JL FIRST", "NOP FIRST"))),
+    Exercise("58_radix", last_two_digits, (1, 2, 8, 60), (("CMP6 =P=", "CMP6 =P+1="),)),
+    Exercise("60_sequential_search", two_at_once, (1, 2, 9, 40), (("DEC1 2", "DEC1 1"),)),
+    Exercise("61_binary_search", by_halves, (1, 2, 7, 16, 17, 31, 30), (("DEC1 0,3", "DEC1 1,3"),)),
+    Exercise("62_search_tree", fewest_comparisons, (0,), (), put=False),
+    Exercise("65_hashing", opposite_order, (7,), (), put=False),
+    Exercise("63_tree_deletion", without_some, (1, 5, 9, 25), (("ST3 0,5", "ST2 0,5"), ("ST4 RIGHT,3", "NOP RIGHT,3"), ("J4Z 2F", "JMP 2F"))),
+    Exercise("64_balanced_tree", levels, (0, 1, 2, 5, 20, 60), (("JAN 2F", "JAP 2F"),)),
+    Exercise("66_chaining", by_two_remainders, (1, 4, 10, 16, 34, 55), (("DIV =M-2=", "DIV =M-1="), ("INC2 M", "INC2 M-1"))),
+    Exercise("67_hash_deletion", lazy_orders, (1, 3, 9, 30), (("J4NN BELOW", "NOP BELOW"), ("JXN FREED", "JXN ABSENT"), ("ENNX 1", "ENTX 0"))),
+    Exercise("59_tapes", sorted_cards, (1, 2, 3, 12, 260), (("CMPX LAST", "CMPA LAST"),)),
 ]

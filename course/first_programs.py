@@ -4,8 +4,7 @@ import itertools
 import math
 import random
 
-from counting import measured, times
-from lesson import RUN, Lesson
+from counting import RUN, Lesson, measured, times
 
 
 def degrees(run):
@@ -38,22 +37,20 @@ def fields(run):
 
 
 def reversal(run):
-    show = "show values TABLE+1 TABLE+N"
     for n in (1, 2, 3, 7, 10, 31):
         table = [100 + 7 * k for k in range(n)]
         for name in ("lesson.mixal", "answer.mixal"):
-            ran = run(name, N=n, data=table, script=[*RUN, show])
-            yield f"{name}, {n} entries reversed", ran.numbers(show), table[::-1]
+            ran = run(name, N=n, data=table, script=[*RUN, "show values TABLE+1 TABLE+N"])
+            yield f"{name}, {n} entries reversed", ran.numbers(), table[::-1]
             yield from times(ran, N=n)
 
 
 def rotation(run):
-    show = "show values TABLE+1 TABLE+N"
     for n, k in ((7, 2), (7, 1), (7, 6), (12, 5), (2, 1)):
         table = [100 + 7 * m for m in range(n)]
         for name, by in (("lesson.mixal", k), ("answer.mixal", n - k)):
-            ran = run(name, N=n, K=k, data=table, script=[*RUN, show])
-            yield f"{name}, {n} entries moved by {k}", ran.numbers(show), table[by:] + table[:by]
+            ran = run(name, N=n, K=k, data=table, script=[*RUN, "show values TABLE+1 TABLE+N"])
+            yield f"{name}, {n} entries moved by {k}", ran.numbers(), table[by:] + table[:by]
             yield from times(ran, N=n, B=k // 2 + (n - k) // 2 + n // 2)
 
 
@@ -104,19 +101,32 @@ def sieve(run):
         yield "who struck out first: the smallest factor", ran.numbers(cells), [0 if is_prime(k) else factors(k)[0] for k in range(2, n + 1)]
 
 
+def eliminated(n, m):
+    """The order in which the men of a circle are taken, each m-th."""
+    men, order, at = list(range(1, n + 1)), [], 0
+    while men:
+        at = (at + m - 1) % len(men)
+        order.append(men.pop(at))
+    return order
+
+
 def josephus(run):
     for n, m in ((10, 3), (8, 4), (24, 11), (5, 1), (2, 2), (41, 3)):
-        men, order, at = list(range(1, n + 1)), [], 0
-        while men:
-            at = (at + m - 1) % len(men)
-            order.append(men.pop(at))
-        show = "show values ORDER+1 ORDER+N"
-        ran = run(N=n, M=m, script=[*RUN, show])
-        yield f"the order of {n} men, each {m}-th", ran.numbers(show), order
+        order = eliminated(n, m)
+        ran = run(N=n, M=m, script=[*RUN, "show values ORDER+1 ORDER+N"])
+        yield f"the order of {n} men, each {m}-th", ran.numbers(), order
         yield from times(ran, N=n, M=m)
         ran = run("answer.mixal", N=n, M=m, script=[*RUN, "show values LAST LAST"])
         yield "the last man", ran.numbers("show values LAST LAST"), order[-1:]
         yield from times(ran, N=n)
+
+
+def largest_sum(before, number):
+    """The largest number that fits into a word, if each is the sum of the two before it, and its index."""
+    index = 2
+    while before + number < 64**5:
+        before, number, index = number, before + number, index + 1
+    return [number, index]
 
 
 def overflow(run):
@@ -132,12 +142,9 @@ def overflow(run):
         yield "the table moved up", ran.numbers(shows[2]), [plain[0]] * (n + 1)
         yield from times(ran, N=n, C=sum(table) // 64**5)
     for first, second in ((1, 1), (2, 1), (0, 7), (64**5 - 1, 1), (5000, 64**4)):
-        before, number, index = first, second, 2
-        while before + number < 64**5:
-            before, number, index = number, before + number, index + 1
         put = [f"set cell FIRST {first}", f"set cell SECOND {second}"]
         ran = run("answer.mixal", script=[*put, "run 1000", "show values RESULT INDEX"])
-        yield f"the largest number in a word after {first} and {second}, and its index", ran.numbers("show values RESULT INDEX"), [number, index]
+        yield f"the largest number in a word after {first} and {second}, and its index", ran.numbers("show values RESULT INDEX"), largest_sum(first, second)
 
 
 def quotients(m, n):

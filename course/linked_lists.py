@@ -2,23 +2,22 @@
 import itertools
 import random
 
-from counting import times
-from lesson import RUN, Lesson
+from counting import RUN, Lesson, times
 
 
 def queued(operations, room):
-    """What is removed from a queue with room for so many, and how often it overflows and underflows."""
-    waiting, out, over, under = [], [], 0, 0
+    """What is removed from a queue with room for so many; how often it overflows and underflows, and overflows where the rear goes to the first cell."""
+    waiting, out, over, under, vain = [], [], 0, 0, 0
     for number in operations:
         if number and len(waiting) < room:
             waiting.append(number)
         elif number:
-            over += 1
+            over, vain = over + 1, vain + ((len(out) + len(waiting)) % (room + 1) == room)
         elif waiting:
             out.append(waiting.pop(0))
         else:
             under += 1
-    return out, over, under
+    return out, over, under, vain
 
 
 def queue(run):
@@ -26,20 +25,14 @@ def queue(run):
     cases = [(4, [11, 12, 0, 13, 14, 15, 0, 0, 16, 0, 0, 0]), (2, [5, 6, 0, 0, 7]), (3, [0]), (5, [])]
     cases += [(room, [draw.choice([0, 0, 0, 21 + k, 61 + k]) for k in range(40)]) for room in (2, 3, 5, 9)]
     for places, operations in cases:
-        out, over, under = queued(operations, places - 1)
+        out, over, under, vain = queued(operations, places - 1)
         put, tried = sum(map(bool, operations)) - over, sum(map(bool, operations))
         show, taken = f"show values TAKEN+1 TAKEN+{len(out) + 1}", operations.count(0)
         ran = run(M=places, data=[*operations, -1], script=[*RUN, show, "show values"])
         yield f"what is removed from {places} cells", ran.numbers(show), [*out, 0]
         yield "overflows and underflows", ran.register("I6"), over + under
-        vain, waiting, puts = 0, 0, 0  # insertions that overflow where the rear goes from M to 1
-        for number in operations:
-            full = waiting == places - 1
-            vain += bool(number) and full and puts % places == places - 1
-            puts += bool(number) and not full
-            waiting += (not full) if number else -(waiting > 0)
         yield from times(ran, I=tried, D=taken, O=over, U=under, A=put // places + vain, B=len(out) // places)
-        out, over, under = queued(operations, places)
+        out, over, under, _ = queued(operations, places)
         show = f"show values TAKEN+1 TAKEN+{len(out) + 1}"
         ran = run("answer.mixal", M=places, data=[*operations, -1], script=[*RUN, show, "show values"])
         yield f"what is removed when all {places} cells are used", (ran.numbers(show), ran.register("I6")), ([*out, 0], over + under)

@@ -1,12 +1,54 @@
-"""Facts of the lessons of 1.3.3: Stirling numbers of the first kind, numbers of fixed points, and sums
+"""Facts of the lessons of 1.3.3: products of which each letter is followed, Stirling numbers of the first kind, numbers of fixed points, and sums
 over all permutations. None of them runs through cycles as the programs do."""
 import itertools
+import random
 import re
 from fractions import Fraction
 from math import comb, factorial
 
-from counting import measured, times
-from lesson import RUN, Lesson
+from counting import RUN, Lesson, measured, times
+from machine import CHARACTERS
+
+
+def taken(formula):
+    """Where the product takes each letter, in the order in which they come first."""
+
+    def image(letter):
+        for cycle in re.findall(r"\w+", formula):
+            letter = (cycle + cycle[0])[cycle.index(letter) + 1] if letter in cycle else letter
+        return letter
+
+    return {letter: image(letter) for letter in formula if letter.isalpha()}
+
+
+def drawn_formula(choose, sizes):
+    """A formula whose cycles have these sizes, and its symbols as lines of a source."""
+    formula = "".join(f"({''.join(choose(size))})" for size in sizes)
+    return formula, [f'        ALF  "    {symbol}"' for symbol in formula]
+
+
+def products(run):
+    draw = random.Random(133)
+    for sizes in ([3, 2, 3], [1], [2, 2], [9], [3, 1, 4, 1, 5], [5] * 9):
+        formula, data = drawn_formula(lambda size: draw.sample("ABCDEFGHIXYZ", size), sizes)
+        images, n, cycles = taken(formula), len(formula), []
+        for letter in images:
+            if letter not in "".join(cycles):
+                cycles.append(letter)
+                while (letter := images[cycles[-1][-1]]) != cycles[-1][0]:
+                    cycles[-1] += letter
+        wanted = "".join(f"({cycle})" for cycle in cycles)
+        ran = run(N=n, data=data, script=[*RUN, f"show values CYCLES+1 CYCLES+{len(wanted) + 1}"])
+        yield f"the product of {formula}", ran.numbers(), [*map(CHARACTERS.index, wanted), 0]
+        letters = {"P": len(sizes), "L": sum(sizes), "U": len(cycles), "V": len(images)}
+        yield from times(ran, N=n, **letters, M=len(images) * (n + 1) - sum(sizes) - sum(formula.index(cycle[0]) + 1 for cycle in cycles))
+        ran = run("answer.mixal", N=n, data=data, script=[*RUN, "show values IMAGE+1 IMAGE+LETTERS"])
+        yield f"the images of {formula}", ran.numbers("show values IMAGE+1 IMAGE+LETTERS"), images_of(images)
+        yield from times(ran, N=n, LETTERS=29, **letters)
+
+
+def images_of(images):
+    return [CHARACTERS.index(images.get(CHARACTERS[code], CHARACTERS[code])) for code in range(1, 30)]
 
 
 def cycle_numbers(n):
@@ -80,6 +122,7 @@ def inverse(run):
 
 
 LESSONS = [
+    Lesson("09_permutations", products, ("LDX  TEXT+1,1", "LDX  TEXT+2,1")),
     Lesson("17_cycles_counted", cycles_counted, ("JG   WALK", "JGE  WALK")),
     Lesson("18_inverse", inverse, ("ST1  X,4", "ST2  X,4")),
 ]

@@ -1,16 +1,26 @@
 """Runs a lesson's bundle with a program, with other data or one instruction changed, and reads what it writes."""
+import importlib
 import json
 import os
 import pathlib
+import pty
 import re
+import select
 import subprocess
 import sys
+import tempfile
 
 COURSE = pathlib.Path(__file__).resolve().parent
 MARK = "show value 1073741823"  # its reply parts the replies of the commands
 MARKED = '+ 63 63 63 63 63  1073741823  "?????"'
 RAN = re.compile(r"ran (\d+) to (\d+) clock (\d+): (.*)")
 COUNTED = re.compile(r" *(\d+) +(\d+)  (\d{4})  ( *\d+)[ *] (.*)")
+
+
+def all_lessons():
+    """The lessons of all modules, in their order."""
+    topics = "arithmetic cards deleting first_programs linked_lists merging more_sorting permutations searching sorting stacks subroutines trees".split()
+    return sorted(lesson for topic in topics for lesson in importlib.import_module(topic).LESSONS)
 
 
 def done(main):
@@ -32,7 +42,7 @@ class Bundle:
     """The three parts of a bundle, each a list of lines; a part that is not there is None."""
 
     def __init__(self, text):
-        lines = text.splitlines()
+        lines = text.removesuffix("\n").split("\n")
         script = lines.index("%SCRIPT") if "%SCRIPT" in lines else len(lines)
         deck = lines.index("%DEVICES") if "%DEVICES" in lines[:script] else script
         self.source, self.deck, self.script = lines[:deck], lines[deck + 1 : script], lines[script + 1 :]
@@ -78,7 +88,7 @@ def written(program, bundle, marked=False):
 def replies_of(program, bundle):
     """The replies of each command, a list of lines for each."""
     replies = [[]]
-    for line in written(program, bundle, marked=True)[0].splitlines():
+    for line in written(program, bundle, marked=True)[0].split("\n")[:-1]:
         if line == MARKED:
             replies.append([])
         else:
@@ -114,9 +124,9 @@ class Outcome:
     def lines(self, command):
         return self.replies[command]
 
-    def numbers(self, command):
-        """The numbers of the words of `show values E E` or `show values`."""
-        return [int(line[21:33]) for line in self.lines(command)]
+    def numbers(self, command=None):
+        """The numbers of the words of `show values E E`, the last if none is named, or of `show values`."""
+        return [int(line[21:33]) for line in self.lines(command or [one for one in self.replies if one.startswith("show values ")][-1])]
 
     def words(self, command):
         """The words of `show cells E E`: of each cell its sign, as 1 or -1, and its five bytes."""
@@ -160,3 +170,42 @@ class Runner:
         bundle.script = bundle.script if script is None else script
         bundle.deck = bundle.deck if deck is None else deck
         return Outcome(bundle, replies_of(self.program, bundle))
+
+
+PATIENCE = 60  # seconds in which a prompt has to come
+
+
+def read_to_prompt(terminal, prompt):
+    """What is written up to the next prompt, or to the end of the session."""
+    seen = b""
+    while not seen.endswith(prompt.encode()):
+        if not select.select([terminal], [], [], PATIENCE)[0]:
+            raise ValueError("no prompt comes")
+        try:
+            more = os.read(terminal, 65536)
+        except OSError:  # so a terminal ends that nobody has open any longer
+            break
+        if not more:
+            break
+        seen += more
+    return [line.rstrip() for line in seen.decode().removesuffix(prompt).replace("\r\n", "\n").splitlines()]
+
+
+def at_a_terminal(program, sources, commands, prompt):
+    """The greeting, and the lines of each reply without the command that the terminal repeats. Before a `reload` the file gets the last source."""
+    with tempfile.TemporaryDirectory() as folder:
+        file = pathlib.Path(folder, "sum.mixal")
+        file.write_text("".join(f"{line}\n" for line in sources[0]))
+        ours, theirs = pty.openpty()
+        talk = subprocess.Popen([program, "debug", file.name], cwd=folder, stdin=theirs, stdout=theirs, stderr=theirs, env={**os.environ, "TERM": "dumb"},
+                                start_new_session=True)
+        os.close(theirs)
+        replies = [read_to_prompt(ours, prompt)]
+        for command in commands:
+            if command == "reload":
+                file.write_text("".join(f"{line}\n" for line in sources[-1]))
+            os.write(ours, f"{command}\n".encode())
+            replies.append(read_to_prompt(ours, prompt)[1:])
+        os.close(ours)
+        talk.wait(PATIENCE)
+        return replies

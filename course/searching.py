@@ -1,8 +1,9 @@
 """Facts of the lessons of chapter 6: positions by Python's lists, path lengths by formulas, ancestors by the order of insertion, probes in other orders."""
 import random
 
-from counting import measured, times
-from lesson import RUN, Lesson
+from counting import RUN, Lesson, measured, times
+
+FIBONACCI = (0, 1, 1, 2, 3, 5, 8, 13, 21, 34, 55)
 
 
 def sequential_search(run):
@@ -54,6 +55,38 @@ def binary_search(run):
         levels = [k.bit_length() for k in range(1, n + 1)]  # the tree of the search is full but for its last level
         yield f"looks that find the keys, {n} of them", sorted(looks[True]), levels
         yield "looks for what lies between them", sum(looks[False]), sum(levels) + n
+
+
+def fibonacci_moves(order, place):
+    """Comparisons, moves to the left and moves to the right on the way to a place in the Fibonacci tree of an order, and whether it is there."""
+    looks = left = right = 0
+    while order > 1:
+        looks += 1
+        if place == FIBONACCI[order]:
+            return looks, left, right, 1
+        if place < FIBONACCI[order]:
+            left, order = left + 1, order - 1
+        else:
+            right, place, order = right + 1, place - FIBONACCI[order], order - 2
+    return looks, left, right, 0
+
+
+def fibonaccian_search(run):
+    for order in (4, 5, 7, 9):
+        first, second, third = FIBONACCI[order], FIBONACCI[order - 1], FIBONACCI[order - 2]
+        for n in (first + second - 1, first + second - 2, first):
+            keys = [10 * k for k in range(1, n + 1)]
+            for wanted in range(5, 10 * n + 6, 5):
+                place = wanted // 10 if wanted % 10 == 0 else 0
+                ran = run("answer.mixal", N=n, WANTED=wanted, data={"data": keys, "numbers": [first, second, third]}, script=["run 1000", "show values"])
+                yield f"the position of {wanted} among {n}", ran.register("I1"), place
+                if n < first + second - 1:
+                    continue
+                ran = run(N=n, F=first, P=second, Q=third, WANTED=wanted, data=keys, script=[*RUN, "show values"])
+                yield f"the position of {wanted}", ran.register("I1"), place
+                looks, left, right, found = fibonacci_moves(order, place or wanted / 10)
+                ends = 0 if found else int(measured(ran, "D")["D"] < left)
+                yield from times(ran, N=n, S=found, C=looks, D=left - ends, U=right)
 
 
 def above(keys, place):
@@ -176,6 +209,7 @@ def chaining(run):
 
 LESSONS = [
     Lesson("60_sequential_search", sequential_search, ("J1P  LOOK", "J1NN LOOK")),
+    Lesson("68_fibonaccian_search", fibonaccian_search, ("DEC2 0,3", "DEC2 1")),
     Lesson("61_binary_search", binary_search, ("ENT1 1,3", "ENT1 0,3")),
     Lesson("62_search_tree", search_tree, ("LD3  LEFT,2", "LD3  RIGHT,2")),
     Lesson("65_hashing", hashing, ("ENT2 M-1", "ENT2 M")),

@@ -4,8 +4,7 @@ import random
 from fractions import Fraction
 from math import factorial
 
-from counting import count_at, measured, times
-from lesson import RUN, Lesson
+from counting import RUN, Lesson, count_at, measured, times
 
 SHOW = "show values KEY+1 KEY+N"
 
@@ -192,9 +191,8 @@ def bubble(run):
     tables = [[40, 70, 10, 50, 20, 80, 60, 30], [1, 2], [2, 1], list(range(12, 0, -1)), list(range(9)), *(draw.sample(range(1, 999), n) for n in (3, 7, 20, 31))]
     for table in tables:
         for name in ("lesson.mixal", "answer.mixal"):
-            show = "show values KEY+1 KEY+N"
-            ran = run(name, N=len(table), data=table, script=[*RUN, show])
-            yield f"{name}: {table} sorted", ran.numbers(show), sorted(table)
+            ran = run(name, N=len(table), data=table, script=[*RUN, "show values KEY+1 KEY+N"])
+            yield f"{name}: {table} sorted", ran.numbers(), sorted(table)
             larger = sum(one > max(table_at) for n in range(len(table), 1, -1) for table_at, one in rightmost(table, n))
             yield from times(ran, N=len(table), L=larger, **passes_of(table))
 

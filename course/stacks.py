@@ -2,8 +2,7 @@
 import random
 from fractions import Fraction
 
-from counting import times
-from lesson import RUN, Lesson
+from counting import RUN, Lesson, times
 
 LOW = 1000
 

@@ -3,8 +3,7 @@ import math
 import random
 import re
 
-from counting import count_at, times
-from lesson import RUN, Lesson
+from counting import RUN, Lesson, count_at, times
 from machine import CHARACTERS
 
 

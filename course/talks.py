@@ -11,8 +11,7 @@ import re
 import subprocess
 
 from columns import Counted, as_text, table
-from running import Bundle, replies_of
-from terminal import at_a_terminal
+from running import Bundle, at_a_terminal, replies_of
 
 BLOCK = re.compile(r"^```text (after )?(\S+\.mixal)\n(.*?)^```$", re.S | re.M)
 COLUMNS = re.compile(r"^```text times (\S+\.mixal) (.*?)\n(.*?)^```$", re.S | re.M)
@@ -55,6 +54,13 @@ def is_shown(shown, written):
     return any(is_shown(shown[1:], written[at:]) for at in range(1, len(written) + 1))
 
 
+def same(command, lines, reply):
+    """Compares the lines that are shown below a command with its reply."""
+    different = [line for line in lines if line != LEFT_OUT and not any(is_line(line, one) for one in reply)]
+    yield f"lines of the reply to {command} that are not written", different, []
+    yield f"whether the reply to {command} is shown whole and in order", is_shown(lines, reply), True
+
+
 def can(program, command):
     """Whether a program has this command; one that only reads a bundle has not."""
     return subprocess.run([program, command, "--help"], stdin=subprocess.DEVNULL, capture_output=True).returncode == 0
@@ -70,7 +76,7 @@ def terminals(program, folder, text):
         replies = at_a_terminal(program, files, [command for command, _ in [*before, *shown] if command], PROMPT)
         before += shown
         for (command, lines), reply in zip(reversed(shown), reversed(replies)):
-            yield f"a terminal's reply to {command or 'nothing'} of {found[2]}", lines, reply
+            yield from same(f"{command or 'nothing'} of {found[2]} at a terminal", lines, reply)
 
 
 def sources(folder, text):
@@ -101,9 +107,7 @@ def talks(program, folder):
         said = talk_of(program, bundle)[first:]
         yield f"the commands of {name}", [command for command, _ in shown], [command for command, _ in said]
         for (command, lines), (_, reply) in zip(shown, said):
-            different = [line for line in lines if line != LEFT_OUT and not any(is_line(line, one) for one in reply)]
-            yield f"lines of the reply to {command} of {name} that are not written", different, []
-            yield f"whether the reply to {command} of {name} is shown whole and in order", is_shown(lines, reply), True
+            yield from same(f"{command} of {name}", lines, reply)
     for found in COLUMNS.finditer(text):
         said = as_text(*table([Counted(program, (folder / found[1]).read_text(), setting) for setting in found[2].split()]))
         yield f"the counts of {found[1]} for {found[2]}", found[3].splitlines(), said

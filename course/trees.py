@@ -1,22 +1,23 @@
-"""Facts of the lessons of 2.3: the orders of a tree and what it reaches by recursion, its threads by the order."""
+"""Facts of the lessons on trees: the orders of a tree and what it reaches by recursion, its threads by the order; balanced trees by heights measured anew."""
+import itertools
 import random
 
-from counting import times
-from lesson import RUN, Lesson
+from counting import RUN, Lesson, times
+from deleting import columns_of, subtree, way_to
 
 
-def drawn_tree(n, draw):
-    """A tree of n nodes as a dictionary: of each node its left and its right subtree, and a letter."""
+def drawn_tree(nodes, number):
+    """A tree of these nodes as a dictionary: of each node its left and its right subtree, and a letter; and its root."""
     tree = {}
 
     def grown(names):
         if not names:
             return 0
-        node, left = names[0], draw.randrange(len(names))
-        tree[node] = (grown(names[1 : left + 1]), grown(names[left + 1 :]), draw.randrange(1, 56))
-        return node
+        left = number(0, len(names) - 1)
+        tree[names[0]] = (grown(names[1 : left + 1]), grown(names[left + 1 :]), number(1, 39))
+        return names[0]
 
-    return tree, grown(draw.sample(range(1, n + 1), n))
+    return tree, grown(nodes)
 
 
 def inorder(tree, node):
@@ -40,15 +41,14 @@ def threads(tree, root):
 def drawn_trees():
     draw = random.Random(231)
     chain = {node: (node + 1 if node < 6 else 0, 0, node) for node in range(1, 7)}
-    return [({1: (0, 0, 5)}, 1), (chain, 1)] + [drawn_tree(n, draw) for n in (2, 3, 9, 30, 60)]
+    return [({1: (0, 0, 5)}, 1), (chain, 1)] + [drawn_tree(draw.sample(range(1, n + 1), n), draw.randint) for n in (2, 3, 9, 30, 60)]
 
 
 def tree_stack(run):
-    show = "show values ORDER+1 ORDER+N"
     for tree, root in drawn_trees():
         for name, order in (("lesson.mixal", inorder), ("answer.mixal", preorder)):
-            ran = run(name, N=len(tree), ROOT=root, data=lines(tree), script=[*RUN, show])
-            yield f"{name}: the letters", ran.numbers(show), [tree[node][2] for node in order(tree, root)]
+            ran = run(name, N=len(tree), ROOT=root, data=lines(tree), script=[*RUN, "show values ORDER+1 ORDER+N"])
+            yield f"{name}: the letters", ran.numbers(), [tree[node][2] for node in order(tree, root)]
             yield from times(ran, N=len(tree))
 
 
@@ -102,8 +102,85 @@ def marking(run):
         yield "the links of free nodes, and no marks", list(ran.words("show cells NODE+1 NODE+N").values()), wanted
 
 
+def height(tree):
+    return 1 + max(height(tree[1]), height(tree[2])) if tree else 0
+
+
+def lean(tree):
+    return height(tree[2]) - height(tree[1])
+
+
+def parts(tree, keys):
+    """The subtrees between and around these keys, from left to right."""
+    return [*parts(tree[1], keys), *parts(tree[2], keys)] if tree and tree[0] in keys else [tree]
+
+
+def inserted(tree, key):
+    """The tree with a key. At a node whose subtrees differ by two in height the first three keys on the way become a tree of height two."""
+    if not tree or key == tree[0]:
+        return tree or (key, None, None)
+    top, left, right = tree
+    tree = (top, inserted(left, key), right) if key < top else (top, left, inserted(right, key))
+    if abs(lean(tree)) < 2:
+        return tree
+    low, middle, high = three = sorted(way_to(tree, key)[:3])
+    below = parts(tree, three)
+    return middle, (low, *below[:2]), (high, *below[2:])
+
+
+def insertion(tree, key, counts):
+    """Counts what an insertion does, by the way to the key and by the nodes on it whose subtrees differ in height."""
+    way = way_to(tree, key)
+    above = [one for one in way if one != key]
+    counts["C"], counts["L"] = counts["C"] + len(above), counts["L"] + sum(one > key for one in above)
+    uneven = [one for one in way if lean(subtree(tree, one))]
+    counts["U"] += len(set(uneven) - set(way[:1]))
+    if key in way:
+        counts["F"] += 1
+        return
+    last = [way[0], *uneven][-1]
+    below, right = [*way[way.index(last) + 1 :], key], key > last
+    counts["I"], counts["V"], counts["W"] = counts["I"] + 1, counts["V"] + (not right), counts["W"] + len(below) - 1
+    counts["X"], counts["H"] = counts["X"] + sum(one > key for one in below), counts["H"] + (not uneven)
+    if uneven and right == (lean(subtree(tree, last)) > 0):
+        twice = right != (key > below[0])
+        counts["B" if twice else "A"] += 1
+        counts["Z"] += twice and len(below) == 2
+        counts["Y"] += twice and len(below) > 2 and right == (key > below[1])
+
+
+def balanced_tree(run):
+    draw = random.Random(623)
+    cases = [[10, 20, 30, 40, 50, 35, 60, 55, 20], [5], [2, 1, 2], *map(list, itertools.permutations(range(1, 5)))]
+    cases += [draw.choices(range(1, 3 * n), k=n) for n in (7, 15, 30, 60, 90)] + [list(range(1, 64))]
+    for keys in cases:
+        tree, counts = (keys[0], None, None), dict.fromkeys("CLUFIVWXHABZY", 0)
+        for key in keys[1:]:
+            insertion(tree, key, counts)
+            tree = inserted(tree, key)
+        nodes = list(dict.fromkeys(keys))
+        root, links = columns_of(tree, nodes)
+        shows = ["show values ROOT ROOT", *(f"show values {name}+1 {name}+{len(nodes)}" for name in ("KEY", "LEFT", "RIGHT", "BAL"))]
+        ran = run(N=len(keys), data=keys, script=[*RUN, *shows])
+        wanted = [[root], nodes, *([links[key][side] for key in nodes] for side in (0, 1)), [100 * lean(subtree(tree, key)) for key in nodes]]
+        yield f"the tree of {keys}", [ran.numbers(show) for show in shows], wanted
+        yield from times(ran, N=len(keys), **counts)
+        data = {"left": wanted[2], "right": wanted[3], "leans": [lean(subtree(tree, key)) for key in nodes]}
+        ran = run("answer.mixal", N=len(nodes), data=data, mend=lambda bundle: bundle.change_instruction("CON 3", f"CON {root}"), script=[*RUN, "show values HEIGHT HEIGHT"])
+        yield "its height", ran.numbers("show values HEIGHT HEIGHT"), [height(tree)]
+        yield from times(ran, H=height(tree), L=sum(lean(one) < 0 for one in higher(tree)))
+
+
+def higher(tree):
+    """The nodes from the root down, on the side that is higher, or on the right one."""
+    while tree:
+        yield tree
+        tree = tree[1 if lean(tree) < 0 else 2]
+
+
 LESSONS = [
     Lesson("40_tree_stack", tree_stack, ("INC3 1", "INC3 2")),
     Lesson("41_tree_threads", tree_threads, ("JANN LEFT", "JAN  LEFT")),
     Lesson("42_marking", marking, ("ENTA 2", "ENTA 3")),
+    Lesson("64_balanced_tree", balanced_tree, ("LD5N SIDE", "LD5 SIDE")),
 ]

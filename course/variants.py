@@ -5,10 +5,11 @@ import textwrap
 import exercises_1
 import exercises_2
 import exercises_5
+import exercises_more
 from exercise import Draw
 from running import COURSE, Bundle
 
-ALL = sorted([*exercises_1.EXERCISES, *exercises_2.EXERCISES, *exercises_5.EXERCISES])
+ALL = sorted([*exercises_1.EXERCISES, *exercises_2.EXERCISES, *exercises_5.EXERCISES, *exercises_more.EXERCISES])
 
 
 SMALL, LARGE, MORE = 3, 8, 3  # up to SMALL entries a case counts one point, if others have LARGE or more; any other case counts MORE
@@ -21,7 +22,7 @@ def own_case(exercise, student):
 
 def cases_of(exercise, student, secret):
     """The cases by their names, each with its kind and its weight: a program that does no more than the smallest cases gets little for it. The first is
-    the one that the student sees; one asks for the limits too, and one that no step uses cells of a transfer under way."""
+    the one that the student sees. One of others asks for the limits too, or that no step uses cells of a transfer under way, and is worth half of all points."""
     own = own_case(exercise, student)
     cases = {"1_own": (own, "", MORE)}
     if exercise.put:
@@ -30,9 +31,13 @@ def cases_of(exercise, student, secret):
         cases.update({f"{at}_hidden": (case, "", weight) for at, (case, weight) in enumerate(zip(hidden, weights), 2)})
     else:
         hidden = [own]
+    share = sum(weight for *_, weight in cases.values())
+    if exercise.put and own.limits:
+        cases[f"{len(cases) + 1}_own_limits"] = (own, "limits", 1)
+        share += 1
     for kind in ("limits", "strict"):
         if getattr(hidden[-1], kind):
-            cases[f"{len(cases) + 1}_{kind}"] = (hidden[-1], kind, MORE)
+            cases[f"{len(cases) + 1}_{kind}"] = (hidden[-1], kind, share)
     return cases
 
 
@@ -54,7 +59,7 @@ def kept_lines(exercise, case):
 
 def conditions(exercise, case, tried):
     """What the program of a case keeps to, in paragraphs; `tried` says what for."""
-    parts = [wrapped(f"**What your program must keep to.** {exercise.contract}")]
+    parts = [wrapped(f"**What your program must keep to.** {exercise.paragraph('Checked:')}")]
     if case.told:
         parts.append(wrapped(case.told))
     elif case.given:
@@ -66,7 +71,8 @@ def conditions(exercise, case, tried):
     if case.strict:
         parts.append("For full marks, no step may use or alter a cell while a unit still reads into it or writes from it.")
     if case.limits:
-        parts.append("For full marks, with these data: " + ", ".join(case.limits).replace("<=", "at most").replace("clock =", "clock") + ".")
+        limits = ", ".join(case.limits).replace("<=", "at most").replace("clock =", "clock")
+        parts.append(f"For full marks, with these data: {limits}." + (" With other data there is such a limit, too." if exercise.put else ""))
     return "\n\n".join(parts)
 
 
@@ -78,10 +84,11 @@ def told(exercise, student, tried):
 
 
 def handout(exercise, student, case):
-    lesson = (COURSE / exercise.name / "README.md").read_text()
-    title = lesson.partition("\n")[0].removeprefix("# ")
-    asked = re.search(r"^\*\*Exercise\.?\*\*\.? *(.*?)\n\n", lesson, re.S | re.M)
-    parts = [f"# {title}: the exercise of {student}", wrapped(asked[1]) if asked else ""]
+    title = (COURSE / exercise.name / "README.md").read_text().partition("\n")[0].removeprefix("# ")
+    asked = exercise.paragraph("Exercise.")
+    task, questions = re.fullmatch(r"(.*?)((?:(?<=[.?]) [A-Z][^.?]*\?)*)", asked).groups() if exercise.put else (asked, "")
+    parts = [f"# {title}: the exercise of {student}", wrapped(f"Read lesson `course/{exercise.name}` first: its words and the layout of its cells are used here.")]
+    parts += [wrapped(task), wrapped(f"Not handed in, but worth an answer:{questions}") if questions else ""]
     parts.append(conditions(exercise, case, "Your program is also run with other values in them."))
     return "\n\n".join(part for part in parts if part) + "\n"
 
