@@ -1,8 +1,11 @@
 // The bundle: a source, perhaps a deck, perhaps a script. Cards are shown apart from the rest of
 // the deck. What the page keeps in a script are remarks.
+import { seen } from "./dom.js";
 
+const MOST = 4194304; // bytes of what a link holds
 const HEADER_OF_CARDS = /^%unit[ \t]+0?16(?![0-9])/i;
 const KEPT = "* Kept by the page, and no commands:";
+export const MADE = "* So far it was done when this was saved or shared.";
 const NAMES = {
   lesson: "lesson", breaks: "breakpoints at lines", bars: "bars", nodes: "nodes", passages: "passages",
   names: "values of names", score: "right predictions", shown: "shown too", left: "still to do",
@@ -37,9 +40,9 @@ export function scriptOf({ done, left, breaks, ...texts }) {
 }
 
 // What the parts of a bundle open. Where the page kept nothing, all lines of a script are to be
-// done at once; of one that waits none is.
+// done at once; of one that waits none is, and a remark says how far it was done.
 export function openedOf({ source, deck, script }, waits) {
-  const lines = linesIn(script);
+  const lines = linesIn(seen(script));
   const at = lines.includes(KEPT) ? lines.lastIndexOf(KEPT) : lines.length;
   const after = (name) => {
     const begin = remark(name, "");
@@ -48,8 +51,9 @@ export function openedOf({ source, deck, script }, waits) {
   const [done, left, shown] = [lines.slice(0, at), after("left"), after("shown").join(" ").split(" ")];
   const breaks = after("breaks").join(" ").split(" ").map(Number).filter((line) => line > 0);
   const texts = ["bars", "nodes", "passages", "names", "score", "lesson"].map((name) => [name, after(name).join(" ")]);
-  const opened = { source, deck, breaks, shown, ...Object.fromEntries(texts) };
-  return waits ? { ...opened, done: [], left: [...done, ...left] } : { ...opened, done, left };
+  const opened = { source, deck: seen(deck), breaks, shown, ...Object.fromEntries(texts) };
+  const parted = done.length > 0 && left.length > 0 ? [...done, MADE, ...left] : [...done, ...left];
+  return waits ? { ...opened, done: [], left: parted } : { ...opened, done, left };
 }
 
 // After the header of unit 16, up to the next header.
@@ -64,8 +68,7 @@ export function cardsApart(deck) {
   const lines = linesOf(deck);
   const [from, to] = placeOfCards(lines) || [0, 0];
   if (from === 0) return { deck, cards: "" };
-  const cards = lines.splice(from, to - from);
-  const isLast = from === lines.length;
+  const [cards, isLast] = [lines.splice(from, to - from), from === lines.length];
   return { deck: lines.join("\n") + (isLast ? "\n" : ""), cards: isLast ? cards.join("\n") : textOfLines(cards) };
 }
 
@@ -78,3 +81,40 @@ export function withCards(deck, cards) {
   lines.splice(from, to - from, ...linesIn(cards));
   return textOfLines(lines);
 }
+
+// A bundle in the fragment of a link: compressed, in letters that a link may hold.
+async function through(stream, bytes, most = Infinity) {
+  const reader = new Blob([bytes]).stream().pipeThrough(stream).getReader();
+  const parts = [];
+  for (let length = 0; ; ) {
+    const { done, value } = await reader.read();
+    if (done) return new Uint8Array(await new Blob(parts).arrayBuffer());
+    length += value.length;
+    parts.push(value);
+    if (length <= most) continue;
+    await reader.cancel();
+    throw new RangeError(`it holds more than ${most.toLocaleString("en")} bytes`);
+  }
+}
+
+const lettersIn = (base64) => atob(base64.replace(/-/g, "+").replace(/_/g, "/"));
+const bytesOf = (base64) => Uint8Array.from(lettersIn(base64), (letter) => letter.charCodeAt(0));
+const inflate = (base64, most) => through(new DecompressionStream("deflate-raw"), bytesOf(base64), most);
+
+function lettersOf(bytes) {
+  const text = Array.from(bytes, (byte) => String.fromCharCode(byte)).join("");
+  return btoa(text).replace(/\+/g, "-").replace(/\//g, "_").replace(/=+$/, "");
+}
+
+export async function fragmentOf(bundle) {
+  return `#mix=${lettersOf(await through(new CompressionStream("deflate-raw"), new TextEncoder().encode(bundle)))}`;
+}
+
+// Nothing where the fragment is none of ours; a RangeError where it holds too much.
+export async function bundleIn(fragment) {
+  const given = new URLSearchParams(fragment.replace(/^#/, ""));
+  return given.has("mix") ? new TextDecoder().decode(await inflate(given.get("mix"), MOST)) : null;
+}
+
+export const bytesOfBlock = (id) => inflate(document.getElementById(id).textContent.trim());
+export const textOfBlock = async (id) => new TextDecoder().decode(await bytesOfBlock(id));

@@ -1,22 +1,20 @@
 // The cases of an exercise that its hand-out tells: the program of the editor is run on each as
 // grade/case runs a source, in an engine beside the session that is shown.
-
 import { cardsApart } from "./bundle.js";
 import { $, choose, counted, fourDigits, on, put } from "./dom.js";
 import { Machine, refusalOf } from "./machine.js";
-import { nameOf } from "./sentence.js";
-import { Session, WHOLE, repl } from "./session.js";
+import { nameOf, toldWord, wordOf } from "./sentence.js";
+import { Session, WHERE, WHOLE, repl } from "./session.js";
 
-const IS_REGISTER = /^(A|X|I[1-6]|J)$/;
-const RAN = /^ran (\d+) to (\d{4}) clock (\d+): (.*)$/m;
-const VALUE = /^(?:(\d{4}) [-+]|(A|X|I[1-6]|J) )/; // in a reply to `show values`
-const [OF_CELL, OF_REGISTER] = [[21, 33], [19, 31]]; // the columns of its number
-const TIMES = /^ *(\d+) +\d+  \d{4} +\d+[ *] (\S+)/; // in one to `show counts`, of a line with a label
-const KNOWN = { clock: "the clock", steps: "the number of steps" };
+const [IS_REGISTER, LIMIT] = [/^(A|X|I[1-6]|J)$/, /^((?:writes )?(\S+)) ([<>]?=) (\d+)$/];
+const KNOWN = { clock: "the clock", steps: "the number of steps", conflicts: "the number of conflicts" };
 const BOUNDS = { "<=": "at most ", ">=": "at least ", "=": "" };
 const NEW_PAGE = "(new page) ";
 const PARTS = ["source", "deck", "cards"];
+const labelOf = (line) => line.split(/\s/)[0].toUpperCase();
 const linesOfFile = (text = "") => text.split("\n").slice(0, -1);
+const limitsIn = (limits) => linesOfFile(limits).map((line) => LIMIT.exec(line));
+const toldNumber = (n) => (n === undefined ? n : toldWord(wordOf(n), n));
 
 // A source with the constants and the blocks of a case in place of its own, as grade/given.awk
 // writes it; a line that it lacks.
@@ -27,13 +25,13 @@ export function withData(source, data) {
     if (line.startsWith("* end of ")) open = "";
     else if (line.startsWith("* ")) blocks.set(open = line, []);
     else if (open) blocks.get(open).push(line);
-    else constants.set(line.split(/\s/)[0], line);
+    else constants.set(labelOf(line), line);
   }
   const lastOf = (first) => first.replace("* ", "* end of ");
   const lines = source.split("\n").flatMap((line) => {
     if (open && line !== lastOf(open)) return [];
     open = blocks.has(line) ? line : "";
-    const [label] = line.split(/\s/);
+    const label = labelOf(line);
     met.add(open || label);
     return open ? [line, ...blocks.get(line)] : [constants.get(label) ?? line];
   });
@@ -41,86 +39,103 @@ export function withData(source, data) {
   return { source: lines.join("\n"), lacks: open ? lastOf(open) : lacks };
 }
 
-// The commands that show the numbers of registers and cells after a run, and the counts.
-export function commandsFor({ cells, limits }) {
-  const named = linesOfFile(cells);
-  const ranges = named.filter((line) => !IS_REGISTER.test(line));
-  const shown = ranges.map((line) => `show values ${line.includes(" ") ? line : `${line} ${line}`}`);
-  const isNamed = ranges.length < named.length;
-  return [...(isNamed ? ["show values"] : []), ...shown, ...(cells && limits ? ["show counts"] : [])];
+// The numbers of the registers and cells that are named, each with the name of what holds it. A
+// range that the program lacks has its ends alone.
+export function numbersIn(named, registers, ranges) {
+  const held = registers.filter(({ name }) => named.includes(name));
+  const ofCell = ({ cell, number }) => ({ what: `cell ${fourDigits(cell)}`, found: number });
+  const ofRange = ({ ends, cells }) => {
+    return cells?.map(ofCell) ?? [{ what: `${[...new Set(ends)].join(" or ")}, which the program lacks,` }];
+  };
+  return [...held.map(({ name, number }) => ({ what: nameOf(name), found: number })), ...ranges.flatMap(ofRange)];
 }
 
-// The numbers in a reply, each with the name of what holds it.
-function numbersIn({ success, body }, command, registers) {
-  const names = [...new Set(command.split(" ").slice(2))].join(" or ");
-  if (!success) return [{ what: `${names}, which the program lacks,` }];
-  return body.result.split("\n").flatMap((line) => {
-    const [, cell, register] = VALUE.exec(line) || [];
-    if (!cell && !registers.includes(register)) return [];
-    const found = line.slice(...(cell ? OF_CELL : OF_REGISTER)).trim();
-    return { what: cell ? `cell ${cell}` : nameOf(register), found };
+async function numbersOf(session, files) {
+  const named = linesOfFile(files.cells);
+  const ends = named.filter((line) => !IS_REGISTER.test(line)).map((line) => line.split(" "));
+  const values = await session.values(ends.flatMap((each) => [each[0], each[each.length - 1]]));
+  const asked = ends.map((_, at) => ["mix/state", { cells: [values.slice(2 * at, 2 * at + 2)] }]);
+  const [{ registers }, ...found] = await session.bodies([WHERE, ...asked]);
+  return numbersIn(named, registers, ends.map((each, at) => ({ ends: each, cells: found[at].cells })));
+}
+
+// The rows of units, or of one unit, with the marks of new pages before them.
+export function rowsOf(units, unit) {
+  const asked = units.filter(({ rows, unit: each }) => rows && (!unit || each === Number(unit)));
+  return asked.flatMap(({ unit: of, rows, pages }) => {
+    const marked = [...rows, ""].map((row, at) => NEW_PAGE.repeat(pages.filter((page) => page === at).length) + row);
+    if (marked[rows.length] === "") marked.pop();
+    return marked.map((found, at) => ({ what: `row ${at + 1} of unit ${of}`, found }));
   });
 }
 
-// The rows of a unit, with the marks of new pages before them.
-function rowsOf({ unit, rows, pages }) {
-  const marked = [...rows, ""].map((row, at) => NEW_PAGE.repeat(pages.filter((page) => page === at).length) + row);
-  if (marked[rows.length] === "") marked.pop();
-  return marked.map((found, at) => ({ what: `row ${at + 1} of unit ${unit}`, found }));
+// What limits count, by their names: by labels how often their lines were executed, by cells the
+// writes. Conflicts are counted by the rows of a reply, since no request counts them.
+async function countsOf(session, { limits }, source, { done, clock }) {
+  const cells = limitsIn(limits).filter(([, name, cell]) => name !== cell).map(([, , cell]) => cell);
+  const numbers = await session.values(cells);
+  const parts = numbers.map((cell) => ["mix/writes", { part: `cell ${cell}`, count: 0, total: true }]);
+  const others = [["mix/program", {}], ["mix/counts", {}], repl("show writes conflict")];
+  const [{ rows }, { cells: executed }, { result }, ...totals] = await session.bodies([...others, ...parts]);
+  const times = new Map(executed.map(({ cell, count }) => [cell, count]));
+  const lines = source.split("\n");
+  const labelled = rows.filter(({ instruction, line }) => instruction && line);
+  return new Map([
+    ...labelled.map(({ cell, line }) => [labelOf(lines[line - 1]), times.get(cell) ?? "0"]),
+    ["steps", String(done)], ["clock", clock], ["conflicts", String(result.split("\n").length - 1)],
+    ...cells.map((cell, at) => [`writes ${cell}`, totals[at].total?.toString()]),
+  ]);
 }
 
 // The first limit that is not kept.
-function missedIn(limits, [, steps, , clock], reply) {
-  const counts = new Map([["steps", steps], ["clock", clock]]);
-  for (const [, times, label] of reply.split("\n").map((line) => TIMES.exec(line) || [])) counts.set(label, times);
-  for (const [name, sign, limit] of linesOfFile(limits).map((line) => line.split(" "))) {
-    const found = counts.get(name);
+function missedIn(limits, counts) {
+  for (const [, name, cell, sign, limit] of limitsIn(limits)) {
+    const found = counts.get(name) ?? counts.get(name.toUpperCase());
     const more = Number(found) - Number(limit); // of a label that the program lacks no number
     const isKept = more === 0 || (sign === "<=" && more < 0) || (sign === ">=" && more > 0);
-    if (!isKept) return { what: KNOWN[name] || `the count of ${name}`, wanted: `${BOUNDS[sign]}${limit}`, found };
+    const what = KNOWN[name] || (name === cell ? `the count of ${name}` : `the number of writes to ${cell}`);
+    if (!isKept) return { what, wanted: `${BOUNDS[sign]}${limit}`, found };
   }
   return undefined;
 }
 
-// The first that is not what is wanted, or nothing; `ran` is what the run told of its end.
-export function differenceIn(files, ran, answers) {
-  const { wanted, cells, unit, limits } = files;
-  const [commands, rows] = [commandsFor(files), linesOfFile(wanted)];
-  const isAsked = ({ rows: written, unit: each }) => written && (!unit || each === Number(unit));
-  const shown = answers.filter((_, at) => commands[at] !== "show counts");
-  const found = cells
-    ? shown.flatMap((each, at) => numbersIn(each, commands[at], linesOfFile(cells)))
-    : shown[0].body.units.filter(isAsked).flatMap(rowsOf);
+// The first that is not what is wanted, or nothing; `found` is what the program has.
+export function differenceIn({ wanted, cells, unit, limits }, found, counts) {
+  const rows = linesOfFile(wanted);
   for (let at = 0; at < Math.max(rows.length, found.length); at += 1) {
     const what = unit ? `row ${at + 1} of unit ${Number(unit)}` : `number ${at + 1}`;
-    if (rows[at] !== found[at]?.found) return { what, ...found[at], wanted: rows[at] };
+    const [is, was] = [found[at]?.found, rows[at]].map(cells ? toldNumber : (row) => row);
+    if (rows[at] !== found[at]?.found) return { what, ...found[at], found: is, wanted: was };
   }
-  return cells && limits ? missedIn(limits, ran, answers[answers.length - 1].body.result) : undefined;
+  return counts && missedIn(limits, counts);
 }
 
 // How a run ended, as a sentence; `met` is the change that a strict run does not do.
-export function endOf(/** @type {string[]} */ [, steps, location, clock, end], met) {
-  const done = counted(Number(steps), "step");
+export function endOf(/** @type {Partial<State>} */ { done: steps, location, clock, halted }, fault, met) {
+  const done = counted(steps, "step");
   if (met) return `The run ended before a conflict at ${fourDigits(met.location)}: ${met.conflict.text}.`;
-  if (end === "halt") return `The run ended by HLT after ${done}, clock ${Number(clock).toLocaleString("en")} u.`;
-  if (end === "limit") return `The run has not ended after ${done}, the most of this case.`;
-  return `The run ended after ${done}, at ${location}, by ${end.replace(/^fault/, "the fault")}.`;
+  if (halted) return `The run ended by HLT after ${done}, clock ${Number(clock).toLocaleString("en")} u.`;
+  if (!fault) return `The run has not ended after ${done}, the most of this case.`;
+  const at = fourDigits(location);
+  return `The run ended after ${done}, at ${at}, by the fault ${fault.exceptionId} ${fault.description}.`;
 }
 
 // Whether a program with the texts of a case is right, the first that differs, and how it ended.
 async function judged(machine, files, { lacks, ...texts }) {
   if (lacks) return { end: `The program lacks the line ${lacks}.` };
   const session = new Session(machine, texts, () => ({ blocks: [], field: WHOLE }));
-  const [run] = await session.ask([repl(`run ${files.steps.trim()}${files.strict ? " until conflict" : ""}`)]);
+  const command = `run ${files.steps.trim()}${files.strict ? " until conflict" : ""}`;
+  const [{ body }, { body: ran }] = await session.ask([repl(command), WHERE]);
   const refusal = refusalOf(session.launched);
   if (refusal) return { end: `With the data of the case it is refused: ${refusal}.` };
-  const ran = RAN.exec(run.body.result);
-  const last = files.strict && ran[1] !== "0" ? [["mix/change", { number: Number(ran[1]), conflict: true }]] : [];
+  const last = files.strict && ran.done > 0 ? [["mix/change", { number: ran.done, conflict: true }]] : [];
   const met = (await session.bodies(last)).find(({ conflict }) => conflict);
   if (met) await session.ask([repl("back 1")]);
-  const answers = await session.ask(files.cells ? commandsFor(files).map(repl) : [["mix/units", {}]]);
-  const differs = differenceIn(files, ran, answers);
-  return { isRight: !differs && !met && ran[4] === "halt", differs, end: endOf(ran, met) };
+  const units = async () => rowsOf((await session.bodies([["mix/units", {}]]))[0].units, files.unit);
+  const found = await (files.cells ? numbersOf(session, files) : units());
+  const counts = files.cells && files.limits ? await countsOf(session, files, texts.source, ran) : undefined;
+  const differs = differenceIn(files, found, counts);
+  return { isRight: !differs && !met && ran.halted, differs, end: endOf(ran, body.fault, met) };
 }
 
 export class Check {
@@ -157,8 +172,7 @@ export class Check {
   }
 
   textsFor({ data, deck = "", cards = "" }, source) {
-    const apart = cardsApart(deck);
-    return { ...withData(source, data), deck: apart.deck, cards: cards || apart.cards };
+    return { ...withData(source, data), ...cardsApart(deck), ...(cards && { cards }) };
   }
 
   async check() {
@@ -178,8 +192,8 @@ export class Check {
     const at = found.findIndex(({ isRight }) => !isRight);
     const { differs, end = "" } = found[at] || {};
     this.first = found[at] ? this.textsFor(this.cases[at], this.checked) : null;
-    const told = `${right} of ${counted(found.length, "case")} ${right === 1 ? "is" : "are"} right`;
-    put($("check-told"), found.length > 0 ? told : "");
+    const score = `${right} of ${counted(found.length, "case")} ${right === 1 ? "is" : "are"} right`;
+    put($("check-told"), found.length > 0 ? score : "");
     $("check-first").hidden = !found[at];
     put($("check-what"), `Case ${at + 1}${differs ? `: ${differs.what} is not what is wanted.` : " is not right."}`);
     $("check-rows").hidden = !differs;

@@ -1,5 +1,4 @@
 // Colours of the source, by the grammar of the editors.
-
 const OTHERS = "comment|entity|support|string|constant|punctuation|invalid";
 const KINDS = new RegExp(`^(${OTHERS}|keyword\\.(control|operator|other)|variable(\\.language)?)\\b`);
 const regexOf = (pattern) => new RegExp(pattern.replace("(?i)", ""), pattern.includes("(?i)") ? "dgi" : "dg");

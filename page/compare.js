@@ -1,6 +1,5 @@
 // Two runs side by side after as many changes. The one that was kept has an engine of its own, and
 // does its commands again.
-
 import { $, all, counted, keepRows, listed, make, on, put } from "./dom.js";
 import { Machine } from "./machine.js";
 import { heldIn } from "./memory.js";
@@ -30,6 +29,8 @@ export class Compare extends Picture {
     const other = new Session(this.machine, texts, () => ({ blocks: [], field: WHOLE }));
     this.session = Object.assign(other, { log: [...log], state });
     this.forget();
+    $("stage-tabs").querySelector("[data-box=compare-box]").hidden = false;
+    $("compare-box").open = true;
     this.look(this.store.view);
   }
 
@@ -38,6 +39,8 @@ export class Compare extends Picture {
     this.machine.stop();
     this.machine.end();
     $("compare").hidden = true;
+    $("stage-tabs").querySelector("[data-box=compare-box]").hidden = true;
+    if ($("compare-box").open) $("output-box").open = true;
     this.papers.show();
     for (const row of all("#papers .differs")) row.classList.remove("differs");
     $("compare-open").focus();

@@ -1,9 +1,12 @@
 // Small helps for elements.
-
 export const $ = (id) => /** @type {any} */ (document.getElementById(id));
 export const all = (selector, within = document) => /** @type {any[]} */ ([...within.querySelectorAll(selector)]);
 export const on = (id, event, work) => $(id).addEventListener(event, work);
 
+// Characters that turn the direction of what follows are seen as what they are.
+export const TURNS = /[\u202a-\u202e\u2066-\u2069]/g;
+export const nameOfTurn = (letter) => `[U+${letter.charCodeAt(0).toString(16).toUpperCase().padStart(4, "0")}]`;
+export const seen = (text) => (typeof text === "string" ? text.replace(TURNS, nameOfTurn) : text);
 export const tenths = (number) => Math.round(10 * number) / 10;
 
 // A child that is a text stays a text. Numbers have a tenth at most.
@@ -11,15 +14,16 @@ export function furnished(element, given, children) {
   for (const [key, value] of Object.entries(given)) {
     if (typeof value === "function") element.addEventListener(key, value);
     else if (typeof value === "number") element.setAttribute(key, tenths(value));
-    else if ((value ?? false) !== false) element.setAttribute(key, value === true ? "" : value);
+    else if ((value ?? false) !== false) element.setAttribute(key, value === true ? "" : seen(value));
   }
-  element.append(...children);
+  element.append(...children.map(seen));
   return element;
 }
 
 export const make = (name, given = {}, ...children) => furnished(document.createElement(name), given, children);
 
-export function put(element, text) {
+export function put(element, given) {
+  const text = seen(given);
   if (element.textContent !== text) element.textContent = text;
 }
 
@@ -50,9 +54,9 @@ export function keepStop(box, row = box) {
   return button;
 }
 
-export function stepOf(key, page) {
-  return { ArrowUp: -1, ArrowDown: 1, PageUp: -page, PageDown: page, Home: -Infinity, End: Infinity }[key];
-}
+export const stepOf = (key, page) => ({
+  ArrowUp: -1, ArrowLeft: -1, ArrowDown: 1, ArrowRight: 1, PageUp: -page, PageDown: page, Home: -1e9, End: 1e9,
+})[key];
 
 // How dark each of some numbers is.
 export function heats(numbers) {
@@ -64,8 +68,7 @@ export const between = (least, number, most) => Math.max(least, Math.min(most, n
 
 export function walks(id, page) {
   on(id, "keydown", (event) => {
-    const step = stepOf(event.key, page);
-    const buttons = all("button", $(id));
+    const [step, buttons] = [stepOf(event.key, page), all("button", $(id))];
     if (!step || buttons.length === 0) return;
     event.preventDefault();
     const old = stopIn($(id));
@@ -115,6 +118,12 @@ export function keepRows(box, items, keyOf, create, update) {
     update(row, item);
   }
   if (isLost) (keepStop(box) || box.closest("[tabindex]") || box).focus();
+}
+
+// The size of a box in which a picture is drawn, and of its letters.
+export function sizeOf(box, lines = 8) {
+  const em = 0.85 * parseFloat(window.getComputedStyle(document.documentElement).fontSize);
+  return { width: Math.max(box.clientWidth, 200), height: Math.max(box.clientHeight, lines * em), em };
 }
 
 // Some names, and how many more there are.

@@ -1,6 +1,5 @@
 // The proved engine as a module of WebAssembly: what a client sends goes in as bytes, what it is
 // sent comes out. It keeps one session, and nothing here knows what a request does.
-
 const [DONE, MEMORY, NO_ROOM] = [0, 1, 3]; // statuses of a call
 const FIRST_ROOM = 1 << 18;
 const LARGE = 1 << 28; // an instance with more memory than this is not kept for another session

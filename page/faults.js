@@ -1,6 +1,5 @@
 // What is wrong with a text, in a list, with remedies; why a text is refused.
-
-import { $, counted, make, put } from "./dom.js";
+import { $, counted, make, put, seen } from "./dom.js";
 import { CHARACTERS } from "./operations.js";
 
 const NO_CHARACTER = 404; // the number of K4
@@ -9,7 +8,7 @@ const NO_CHARACTER = 404; // the number of K4
 export function showFound(/** @type {Found[]} */ found, listing) {
   const all = found.map(({ severity, code, text, ...each }) => {
     const isFault = severity === "error";
-    return { ...each, isFault, text: isFault ? `${code} ${text}` : text };
+    return { ...each, isFault, text: seen(isFault ? `${code} ${text}` : text) };
   });
   listing.setFound(all);
   const rows = all.map(({ line, isFault, text, remedy }, at) => {

@@ -1,9 +1,8 @@
 // Nodes as boxes with a cell for each link, in rows by their distance from a head, and an arrow for
 // each link. Rows go downwards; those of lists, and if there are more rows than a row is long, to the
 // right.
-
 import { fourDigits } from "./dom.js";
-import { BOLD, LETTER, THICK, box, label, lined, picture, shape, solid } from "./svg.js";
+import { BOLD, LETTER, THICK, box, label, lined, picture, shape, solid, tipOf } from "./svg.js";
 
 const [TALL, CELL] = [20, 20]; // of a box and of the cell of a link
 const isAt = (cell) => (each) => each.cell === cell;
@@ -43,8 +42,7 @@ function frameOf(nodes, heads, isTopped) {
   const most = Math.max(0, ...nodes.map(({ links }) => links.length));
   const labels = widthOf(nodes.map(({ labels: each }) => each.join(" ")));
   const names = widthOf(heads.map(({ cell }) => together(heads.filter(isAt(cell)))));
-  const isAcross = most === 1 || rows > columns;
-  const body = labels && labels + 10;
+  const [isAcross, body] = [most === 1 || rows > columns, labels && labels + 10];
   const wide = Math.max(CELL, body + CELL * most);
   const [right, down] = isAcross ? [wide + 40, 54] : [Math.max(wide + 26, heads.length > 1 ? names + 8 : 0), 56];
   const [left, top] = [isAcross ? 24 + names : 24, isTopped ? 42 : 26];
@@ -117,10 +115,8 @@ export function nodesOf({ title, text, nodes, heads, pointers }) {
   const others = [...heads, ...pointers].filter((each) => !isDrawn(each));
   const told = others.map(({ name, said, cell }) => `${name}: ${said || cell}`).join(", ");
   const frame = frameOf(nodes, heads.filter(isDrawn), told !== "");
-  const size = { viewBox: "0 0 8 8", refX: 7, refY: 4, markerWidth: 7, markerHeight: 7, orient: "auto" };
-  const tip = shape("path", { d: "M 0 0 L 8 4 L 0 8 z", ...solid("bar") });
   const shapes = [
-    shape("marker", { id: "nodes-tip", ...size }, tip),
+    tipOf("nodes-tip"),
     label(8, 14, told, "mark", { ...BOLD, "text-anchor": "start" }),
     ...nodes.map((node) => nodeOf(frame, { heads, pointers }, node)),
   ];

@@ -1,12 +1,11 @@
 // Lessons, opening, saving and sharing. `assemble` has made their menu, and HTML of their notes.
-
 import { $, copied, make, on, put, saved } from "./dom.js";
-import { bundleOf, openedOf } from "./bundle.js";
-import { bundleIn, fragmentOf } from "./share.js";
+import { bundleIn, bundleOf, fragmentOf, openedOf } from "./bundle.js";
 import { tooLarge } from "./source.js";
 import { momentOf } from "./memory.js";
 
 const FRAMED = ["bars", "registers", "output", "memory"]; // what a frame may show beside the program
+const FRAMES = { bars: ["stage", "bars-box", "nodes-box"], output: ["stage", "output-box"] }; // the parts that are
 const HELD_EVERY = 1000; // milliseconds
 const LONGEST_HELD = 100000; // letters of an address
 const LONG_LINK = 2000; // letters; mail and chats may cut what is longer
@@ -14,6 +13,8 @@ const FRESH = "* What the program does\n        ORIG 1000\nSTART   ENTA 5       
   + "        HLT\n        END  START\n";
 const EMBED = new URLSearchParams(window.location.search).get("embed"); // the parts that a frame shows, if it is one
 export const IN_FRAME = EMBED !== null;
+const TO_LESSON = /^#(\d+)(?:@(\d+))?$/; // a lesson, and a moment of its program
+const STEPS_ALONE = 100000; // that a link of a lesson does by itself
 const addressOf = (fragment, search = "") => window.location.href.split(/[?#]/)[0] + search + fragment;
 
 function sharedLines(text, other) {
@@ -76,6 +77,7 @@ export class Keep {
     $("answer-text").innerHTML = answer;
     Object.assign($("answer"), { open: false, hidden: !answer && !solution });
     $("answer-open").hidden = !solution;
+    $("read").disabled = !lesson;
   }
 
   // Names the text: a lesson, an edited one, or one's own, which has no line of it, nor of the data
@@ -115,13 +117,14 @@ export class Keep {
     this.app.listing.cm.focus();
   }
 
-  // A bundle that was saved or shared; the reason why it is not opened.
-  async openBundle(bundle) {
+  // A bundle that was saved or shared, whose commands may have to wait; the reason why it is not
+  // opened.
+  async openBundle(bundle, waits) {
     const { store } = this.app;
     store.drop();
     const parts = await store.cut(bundle);
     if (!parts) return "";
-    const opened = openedOf(parts, false);
+    const opened = openedOf(parts, waits);
     const reason = tooLarge(opened.source);
     if (!reason) await this.put(this.lessons.find(({ name }) => name === opened.lesson) || null, opened);
     return reason;
@@ -131,23 +134,43 @@ export class Keep {
     const [file] = $("file").files;
     $("file").value = "";
     if (!file || !(await this.isFree())) return;
-    const reason = await this.openBundle(await file.text());
+    const reason = await this.openBundle(await file.text(), false);
     if (reason) this.app.store.tell(`${file.name} was not opened: ${reason}.`, true);
   }
 
-  // Whether it is a link of the page.
+  // Whether it is a link of the page. What this tab itself has put into its address is done again
+  // at once, and of a link from elsewhere nothing is done until somebody wants it.
   async openLink() {
+    const [, number, moment] = TO_LESSON.exec(window.location.hash) || [];
+    const lesson = number && this.lessons.find(({ name }) => parseInt(name, 10) === Number(number));
+    if (lesson) {
+      await this.openLesson(lesson);
+      await this.goTo(Number(moment || 0));
+      return true;
+    }
+    const isOwn = Boolean(window.history.state?.isHeld);
     const bundle = await bundleIn(window.location.hash).catch((fault) => fault);
     if (bundle === null) return false;
     let reason = bundle instanceof RangeError && bundle.message;
     if (typeof bundle === "string") {
-      reason = (await this.isFree()) && (await this.openBundle(bundle));
+      reason = (await this.isFree()) && (await this.openBundle(bundle, !isOwn));
+      if (!reason && !isOwn) this.app.talk.wait();
       if (!reason) return true;
     }
     if (!this.lesson) await this.openLesson(this.lessons[0]);
     const told = reason ? `is not opened: ${reason}` : "is cut or was changed: it holds no program";
     this.app.store.tell(`This link ${told}.`, true);
     return true;
+  }
+
+  // The whole run if it is short, and back to the moment; of a long one the commands wait.
+  goTo(moment) {
+    const { store, talk } = this.app;
+    const commands = [`run ${Math.max(moment, STEPS_ALONE)}`, `goto ${moment}`];
+    if (moment === 0) return undefined;
+    if (moment <= STEPS_ALONE) return store.enqueue(() => store.act(commands, null));
+    talk.lines = commands;
+    return talk.wait();
   }
 
   get title() { return this.lesson ? `${this.lesson.title}${this.isOther ? ", edited" : ""}` : "A program"; }
@@ -173,7 +196,8 @@ export class Keep {
     const fragment = await fragmentOf(bundle);
     if (bundle !== this.bundle) return;
     this.held = fragment.length <= LONGEST_HELD ? bundle : "";
-    window.history.replaceState(null, "", this.held ? fragment : addressOf("#no-tour", window.location.search));
+    const address = this.held ? fragment : addressOf("#no-tour", window.location.search);
+    window.history.replaceState({ isHeld: true }, "", address);
   }
 
   // The parts that the author of a frame chose stand beside the program, and a link leads to the
@@ -181,9 +205,7 @@ export class Keep {
   frame() {
     const asked = EMBED.split(",").filter((name) => FRAMED.includes(name));
     for (const name of asked.length > 0 ? asked : FRAMED.slice(0, 3)) {
-      const part = $({ bars: "picture" }[name] || name);
-      part.classList.add("chosen");
-      document.querySelector(".side").append(part);
+      for (const part of FRAMES[name] || [name]) $(part).classList.add("chosen");
     }
     this.app.store.on("view", async () => {
       const { bundle } = this;

@@ -1,6 +1,6 @@
 // Beside each line its location, its word and how often it was executed. The lines of the last and
 // of the next step are marked, with a bow where a jump lies between, and those with a fault.
-
+import { placesIn } from "./anatomy.js";
 import { $, between, fourDigits, heats, isPressed, make, mark, on, onResize, put, stepOf } from "./dom.js";
 import { Source } from "./source.js";
 
@@ -23,13 +23,13 @@ export class Listing {
     this.source = new Source(grammar, {
       edited: (changes) => this.edited(changes),
       refused: (reason) => store.tell(`The text was not taken: ${reason}.`, true),
+      moved: (told) => store.tell(told),
       drawn: () => this.draw(),
       said: (line) => this.said.get(line),
       symbols: () => (this.program ? this.program.symbols.map(({ name }) => name) : []),
     });
     this.cm = this.source.cm;
     this.setProgram(null);
-    store.on("view", (view) => this.show(view));
     on("listing", "click", ({ target }) => {
       const row = target.closest(".line");
       if (row) this.ask(Number(row.firstChild.textContent));
@@ -64,6 +64,12 @@ export class Listing {
     if (text !== this.text) this.cm.replaceRange(more, { line: head, ch: 0 }, { line: old.length - tail, ch: 0 });
   }
 
+  // The label of the line, or of the last line above it that has one.
+  labelAbove(line) {
+    const labels = this.text.split("\n", line).map((text) => text.split(/[ \t]/)[0]);
+    return labels.findLast((label) => label && !label.startsWith("*"))?.toUpperCase() ?? `line ${line}`;
+  }
+
   lineText(line) { return this.cm.getLine(line - 1) || ""; }
 
   edited(changes) {
@@ -78,8 +84,7 @@ export class Listing {
     return lines.filter((line) => line !== null).map((line) => line + 1).sort((a, b) => a - b);
   }
 
-  // Whether it is set now.
-  toggle(line) {
+  toggle(line) { // whether it is set now
     const handle = this.cm.getLineHandle(line - 1);
     const isSet = Boolean(handle) && !this.points.delete(handle);
     if (isSet) this.points.add(handle);
@@ -114,6 +119,9 @@ export class Listing {
     this.program = program;
     this.lineOf = new Map(rows.map(({ line, cell }) => [cell, line]));
     this.cellOf = new Map(rows.filter(({ line }) => line).map(({ line, cell }) => [line, cell]));
+    const code = new Set(rows.filter(({ instruction }) => instruction).map(({ cell }) => cell));
+    this.isCode = (cell) => code.has(cell) && this.store.view?.wordIn(cell).instruction;
+    this.places = program ? placesIn(program, this.text) : [];
     if (!program) this.mark(0, 0);
   }
 
@@ -127,15 +135,27 @@ export class Listing {
 
   // Marks the line at the location, or that of a HLT which was done, and the one that was left.
   show(/** @type {View} */ { state, change }) {
-    const left = change && !state.halted ? this.lineOf.get(change.location) : 0;
+    const last = this.lineOf.get(change?.location) || 0;
     $("listing").classList.toggle("halted", state.halted);
-    this.mark(this.lineOf.get(state.halted ? change.location : state.location) || 0, left || 0);
-    this.source.reveal(this.marked);
+    this.mark(state.halted ? last : this.lineOf.get(state.location) || 0, state.halted ? 0 : last);
+  }
+
+  // When both sentences stand at their lines.
+  reveal() {
+    const { cm, marked, left } = this;
+    this.source.reveal(marked, left);
+    if (!marked || !left || Math.abs(marked - left) < 2) return;
+    const middle = (line) => cm.heightAtLine(line - 1, "local") + cm.defaultTextHeight() / 2;
+    const [top, bottom] = [middle(Math.min(left, marked)), middle(Math.max(left, marked))];
+    this.bow.className = `bow ${marked < left ? "up" : "down"}`;
+    cm.addWidget({ line: 0, ch: 0 }, this.bow);
+    Object.assign(this.bow.style, { top: `${top}px`, height: `${bottom - top}px`, left: "" });
   }
 
   mark(marked, left) {
     const { cm } = this;
     Object.assign(this, { marked, left });
+    this.bow.remove();
     const found = this.found.map(({ line, isFault }) => [line, isFault ? "wrong" : "warned"]);
     const wanted = [[marked, "at"], [left === marked ? 0 : left, "left"], ...found];
     cm.operation(() => {
@@ -144,13 +164,6 @@ export class Listing {
       for (const [handle, name] of this.classed) for (const where of PLACES) cm.addLineClass(handle, where, name);
     });
     this.draw();
-    this.bow.remove();
-    if (!marked || !left || Math.abs(marked - left) < 2) return;
-    const middle = (line) => cm.heightAtLine(line - 1, "local") + cm.defaultTextHeight() / 2;
-    const [top, bottom] = [middle(Math.min(left, marked)), middle(Math.max(left, marked))];
-    this.bow.className = `bow ${marked < left ? "up" : "down"}`;
-    cm.addWidget({ line: 0, ch: 0 }, this.bow);
-    Object.assign(this.bow.style, { top: `${top}px`, height: `${bottom - top}px`, left: "" });
   }
 
   draw() {
@@ -165,8 +178,7 @@ export class Listing {
     }));
   }
 
-  // What was drawn beside a line.
-  rowOf(handle) { return handle.gutterMarkers?.beside; }
+  rowOf(handle) { return handle.gutterMarkers?.beside; } // what was drawn beside a line
 
   drawRow(handle, line, isStop, heatOf) {
     if (!this.rowOf(handle)) {
@@ -176,10 +188,8 @@ export class Listing {
     }
     const row = this.rowOf(handle);
     const [button, ...beside] = row.children;
-    const known = this.knownOf(line);
-    const isSet = this.points.has(handle);
-    const heat = heatOf(Number(known.times));
-    const title = this.said.get(line) || "";
+    const [known, isSet] = [this.knownOf(line), this.points.has(handle)];
+    const [heat, title] = [heatOf(Number(known.times)), this.said.get(line) || ""];
     const drawn = [line, ...Object.values(known), isSet, isStop, heat, title].join(" ");
     if (row.drawn === drawn) return;
     row.drawn = drawn;
@@ -200,8 +210,7 @@ export class Listing {
   }
 
   walk(event) {
-    const row = event.target.closest(".line");
-    const step = stepOf(event.key, PAGE);
+    const [row, step] = [event.target.closest(".line"), stepOf(event.key, PAGE)];
     if (!row || !step) return;
     event.preventDefault();
     const line = between(1, Number(row.firstChild.textContent) + step, this.cm.lineCount());

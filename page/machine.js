@@ -1,5 +1,4 @@
 // The engine as the page sees it: requests go in, answers come out, and the page is not held up.
-
 export const STOPPED = "it was stopped";
 const BRACE = 123; // with which the body of a frame begins; a header has none
 const HEADER = "Content-Length: ";
@@ -11,6 +10,15 @@ export function framesOf(requests) {
     return `${HEADER}${writer.encode(body).length}\r\n\r\n${body}`;
   });
   return writer.encode(frames.join(""));
+}
+
+const isLong = ([, { expression = "" }]) => /^run \d{6}/.test(expression); // a command
+
+// Requests up to each that may take long, so that it can be said how far one is.
+function inParts(requests) {
+  const ends = requests.flatMap((request, at) => (isLong(request) ? [at + 1] : []));
+  const cuts = [0, ...ends.filter((end) => end < requests.length), requests.length];
+  return cuts.slice(1).map((end, at) => requests.slice(cuts[at], end));
 }
 
 // Where the program has stopped after a request, `stopped` says why.
@@ -46,10 +54,20 @@ export class Machine {
     this.worker = null;
     this.holder = null; // whose session the engine holds
     this.drop = null;
+    this.counted = (/** @type {number[]} */ ..._) => {}; // hears how far a long way is
   }
 
   // Where the engine does not hold the session of the holder, the requests begin one.
   async ask(holder, requests) {
+    const [answers, parts] = [[], inParts(requests)];
+    for (const [at, part] of parts.entries()) {
+      if (at > 0) this.counted(at, requests.filter(isLong).length);
+      answers.push(...(await this.askPart(holder, part)));
+    }
+    return answers;
+  }
+
+  async askPart(holder, requests) {
     if (!this.worker) {
       this.worker = new Worker(this.url);
       this.worker.postMessage({ module: this.module });

@@ -1,13 +1,12 @@
 // The beginning: what the page needs is in it, in blocks that `assemble` has put there.
-
 import { App } from "./app.js";
+import { bytesOfBlock, textOfBlock } from "./bundle.js";
 import { Check } from "./check.js";
 import { grammarOf } from "./colours.js";
-import { $, make } from "./dom.js";
+import { $, all, make } from "./dom.js";
 import { IN_FRAME, Keep } from "./keep.js";
 import { Machine } from "./machine.js";
 import { fillCard, takeTables } from "./operations.js";
-import { bytesOfBlock, textOfBlock } from "./share.js";
 import { NO_TOUR, Tour } from "./tour.js";
 
 async function begin() {
@@ -22,9 +21,9 @@ async function begin() {
   window.addEventListener("unhandledrejection", ({ reason }) => told(reason));
   window.addEventListener("error", ({ message }) => told(message));
   fillCard();
+  for (const title of all("dialog h2")) title.autofocus = true; // in HTML it would be refused in a frame
   const check = new Check(app.store, app.listing, JSON.parse(cases));
-  const keep = new Keep(app, JSON.parse(lessons), check);
-  const tour = new Tour();
+  const [keep, tour] = [new Keep(app, JSON.parse(lessons), check), new Tour()];
   if (await keep.openLink()) return;
   await keep.openLesson(keep.lessons[0]);
   if (!IN_FRAME && window.location.hash !== NO_TOUR) tour.go(0);

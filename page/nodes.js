@@ -1,5 +1,4 @@
 // Linked nodes as the engine reads them off the cells, at each moment that is seen.
-
 import { $, counted, on, put } from "./dom.js";
 import { nodesOf } from "./graph.js";
 import { refusalOf } from "./machine.js";
@@ -84,8 +83,7 @@ export class Nodes {
       const found = nodesIn(view.told.body.result);
       const isWritten = (cell) => upTo(cell, cell + size - 1).some((each) => view.altered.has(`cell ${each}`));
       const nodes = found.nodes.slice(0, MOST_NODES).map((node) => ({ ...node, isWritten: isWritten(node.cell) }));
-      const title = `Nodes ${kept}, after ${counted(view.state.done, "change")}`;
-      const all = found.nodes.length;
+      const [title, all] = [`Nodes ${kept}, after ${counted(view.state.done, "change")}`, found.nodes.length];
       const rest = all > MOST_NODES && `These are the first ${MOST_NODES} of ${counted(all, "node")}.`;
       const none = all === 0 && "No link leads to a node.";
       const unreached = found.unreached > 0 && `Not reached: ${counted(found.unreached, "node")}.`;

@@ -3,7 +3,6 @@
 //
 // In a sentence {r} is the register, {V} the value of field F of cell M, {cell} the field that is
 // written, {M} the address, {line} the place that is jumped to, {F} the field as a number.
-
 import { $, make, on } from "./dom.js";
 
 export const CARD = []; // the rows as they are printed: those of eight registers are one, with a small r in the name
@@ -41,6 +40,13 @@ export function takeTables(operations, characters) {
 export function filled(sentence, given) {
   const general = { V: "V", cell: "field F of cell M", M: "M", line: "M", F: "F", r: "the register", ...given };
   return sentence.replace(/\{(\w+)\}/g, (_, name) => general[name]);
+}
+
+// What decides whether an operation jumps: a unit, "over", "cmp", or a register.
+export function conditionOf({ code, f, uses, register }) {
+  if (uses !== "jump") return "";
+  if (code !== 39) return register || "unit";
+  return f < 2 ? "" : f < 4 ? "over" : "cmp";
 }
 
 export function explained(word) {

@@ -1,11 +1,11 @@
 // Pictures of all changes: a strip of moments below the bars, the map of time, and the tints of
 // lines and cells.
-
-import { $, all, between, counted, heats, isPressed, mark, on, partOf, put, saved } from "./dom.js";
-import { refusalOf } from "./machine.js";
+import { $, all, counted, heats, isPressed, mark, on, onResize, partOf, put, saved, sizeOf } from "./dom.js";
+import { mapWith } from "./path.js";
 import { fileOf, mapOf, stripOf } from "./svg.js";
 
 const COLUMNS = 60; // of the strip, at most
+const SHADES = 10;
 const MOST_CHANGES = 50000; // after which cells have no tint
 
 // One ask gives all of a picture; it is asked again only where the changes, or what is asked, are
@@ -18,9 +18,7 @@ export class Picture {
   }
 
   get isOpen() { return false; }
-
   async find(/** @type {Session} */ _) { return /** @type {any} */ (null); }
-
   draw() {}
 
   forget() {
@@ -76,6 +74,7 @@ export class Strip extends Picture {
   toggle(isOpen) {
     mark($("bars-strip"), "aria-pressed", isOpen);
     $("strip").hidden = !isOpen;
+    if (isOpen) $("bars-box").open = true;
     if (this.shown) this.show(this.shown);
   }
 
@@ -106,42 +105,34 @@ export class Strip extends Picture {
   }
 }
 
-// What `show map` says: of each row its cell, how often it was executed, and boxes of columns in
-// which it is equally dark.
-export function mapIn(text) {
-  const [head, ...lines] = text.trimEnd().split("\n");
-  const [, columns = 0, many = 0] = (head.match(/\d+/g) || []).map(Number);
-  const boxIn = (word) => {
-    const [from, to, dark] = word.split(/\.\.|:/).map(Number);
-    return { from, to, dark };
-  };
-  const rows = lines.map((line) => {
-    const [cell, count, ...boxes] = line.split(" ");
-    return { cell: Number(cell), count: Number(count), boxes: boxes.map(boxIn) };
+// Of each of some groups of cells how often it was executed in each column, and how dark that is.
+export function darksOf(sums, groups, width, total) {
+  return groups.map((cells) => {
+    const before = sums.map((times) => cells.reduce((sum, cell) => sum + times[cell], 0));
+    const counts = before.slice(1).map((sum, column) => sum - before[column]);
+    const darks = counts.map((count, column) => {
+      return Math.ceil((SHADES * count) / (Math.min(total, (column + 1) * width) - column * width));
+    });
+    return { count: before[before.length - 1], darks };
   });
-  return { columns, many, rows };
 }
 
-// Which lines were executed: a row for each, darker where it was oftener; below what was written
-// to units, and to the part of which somebody asked last who wrote it.
+// Which lines were executed: a row for each label, darker where its lines were oftener; below what
+// was written to units, and to the part of which somebody asked last who wrote it. The slider lies
+// over it.
 export class TimeMap extends Picture {
   constructor(store, /** @type {Listing} */ listing) {
     super(store);
     this.listing = listing;
     store.on("view", () => this.show());
-    on("map-box", "toggle", () => this.show());
-    on("map", "click", (event) => {
-      if (!this.found || !event.target.closest("svg")) return;
-      const { total } = this.found;
-      store.slide(between(0, Math.round(partOf($("map").querySelector(".field"), event) * total), total));
-    });
-    keepsPictures(store, "map", "map", "#map svg");
+    onResize($("map"), () => this.redraw());
   }
 
-  get isOpen() { return $("map-box").open; }
+  get isOpen() { return true; }
 
   forget() {
     this.part = ""; // of which is shown when it was written
+    this.drawn = null;
     super.forget();
   }
 
@@ -150,36 +141,63 @@ export class TimeMap extends Picture {
     this.show();
   }
 
-  show() { this.look(this.part); }
+  show() { this.look(`${this.part} ${this.listing.breakCells}`); }
+  find(session) { return mapWith(session, this.part, this.store.view); }
 
-  async find(session) {
-    const { total } = session;
-    const { map, marks } = await session.mapWith(this.part);
-    return { total, marks, refusal: refusalOf(map), ...mapIn(map.success ? map.body.result : "") };
+  redraw() {
+    this.drawn = null;
+    this.draw();
+  }
+
+  // The lines of the program by their labels, in the order of the source.
+  groups() {
+    const { listing: { program, lineOf, breakCells }, found: { sums } } = this;
+    const last = sums[sums.length - 1];
+    const done = program.rows.filter(({ cell, line }) => line && last[cell] > 0);
+    const rows = done.sort((one, other) => one.line - other.line);
+    const groups = new Map();
+    for (const { cell, line } of rows) {
+      const name = this.listing.labelAbove(line);
+      groups.set(name, [...(groups.get(name) || []), cell]);
+    }
+    const others = [...last.keys()].filter((cell) => last[cell] > 0 && !lineOf.get(cell));
+    if (others.length > 0) groups.set("other", others);
+    const isBreak = (cells) => cells.some((cell) => breakCells.includes(cell));
+    return [...groups].map(([name, cells]) => ({ name, cells, isBreak: isBreak(cells) }));
   }
 
   draw() {
-    $("map").replaceChildren();
-    if (!this.found) return;
-    const { total, columns, many, marks, rows: found, refusal } = this.found;
-    const { breakCells, lineOf } = this.listing;
-    const furnish = (row) => ({ ...row, line: lineOf.get(row.cell), isBreak: breakCells.includes(row.cell) });
-    const rows = found.map(furnish);
-    const more = many > rows.length ? `These are the first ${rows.length} of ${counted(many, "instruction")}.` : "";
-    put($("map-more"), refusal ? `Not shown: ${refusal}.` : many === 0 ? "Nothing was done yet." : more);
-    if (rows.length === 0) return;
-    const { done } = this.store.view.state;
-    const title = `Map of ${counted(total, "change")}`;
-    $("map").append(mapOf({ title, text: this.textOf(rows), rows, columns, marks, total, done }));
+    const { found, store: { view }, listing } = this;
+    if (!found || !view || !listing.program) {
+      $("map").replaceChildren();
+      return;
+    }
+    if (this.drawn?.of !== found) this.drawn = { of: found, ...this.picture() };
+    const { future, present, x, right } = this.drawn;
+    const at = x(view.state.done);
+    future.setAttribute("x", at);
+    future.setAttribute("width", Math.max(0, right - at));
+    for (const end of ["x1", "x2"]) present.setAttribute(end, at);
+  }
+
+  picture() {
+    const { total, width, sums, marks } = this.found;
+    const groups = this.groups();
+    const found = darksOf(sums, groups.map(({ cells }) => cells), width, total);
+    const rows = groups.map((group, at) => ({ ...group, ...found[at] }));
+    const [size, title] = [sizeOf($("map"), 1), `Map of ${counted(total, "change")}`];
+    const drawn = mapOf({ title, text: this.textOf(rows), rows, columns: width, total, marks, size });
+    $("map").replaceChildren(drawn.svg);
+    $("slider").parentNode.style.setProperty("--left", `${drawn.x(0)}px`);
+    return { ...drawn, right: drawn.x(Math.max(1, total)) };
   }
 
   textOf(rows) {
-    const { total, columns, marks } = this.found;
-    const end = (column) => Math.ceil((total * column) / columns);
-    const told = rows.map(({ cell, line, count, boxes }) => {
-      const place = line ? `Line ${line}` : `Location ${cell}`;
-      const [from, to] = [boxes[0].from, boxes[boxes.length - 1].to];
-      return `${place}: ${counted(count, "time")}, between changes ${end(from) + 1} and ${end(to)}.`;
+    const { total, width, marks } = this.found;
+    const end = (column) => Math.min(total, (column + 1) * width);
+    const told = rows.map(({ name, count, darks }) => {
+      const [from, to] = [darks.findIndex(Boolean), darks.findLastIndex(Boolean)];
+      return `${name}: ${counted(count, "time")}, between changes ${from * width + 1} and ${end(to)}.`;
     });
     const parts = marks.map(({ part, numbers }) => {
       const changes = counted(numbers.length, "change");
@@ -195,7 +213,7 @@ export class Heat extends Picture {
   constructor(/** @type {Store} */ store, /** @type {Listing} */ listing, /** @type {Memory} */ memory) {
     super(store);
     this.memory = memory;
-    store.on("view", () => this.show());
+    store.on("cells", () => this.show());
     on("heat", "click", () => {
       mark($("heat"), "aria-pressed", !this.isOpen);
       $("main").classList.toggle("heat", this.isOpen); // a style that asks for the button takes time at each key

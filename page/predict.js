@@ -1,15 +1,15 @@
 // Predict, then step: a question on the next step, what a person predicts, and the score. What the
 // step did is what the engine says of it.
-
 import { $, make, on, put } from "./dom.js";
 import { heldIn } from "./memory.js";
-import { OPERATIONS, filled } from "./operations.js";
+import { OPERATIONS, conditionOf } from "./operations.js";
 import { isCommand, isJump, itemOf, nameOf } from "./sentence.js";
 
 const CHOICES = { jump: ["yes", "no"], cmp: ["less", "equal", "greater"], over: ["on", "off"] };
 const MAY_OVERFLOW = /^(ADD|SUB|DIV|INC[AX]|DEC[AX])$/;
 const OVER_EVERY = 8; // so many changes overflow is asked about, even where it stays as it is
-const BECOMES = /\b(r[AXJ]|rI\d|cell \d+)(?: and (rX))?(?: together)? (?:becomes?|is|are) /;
+const BOTH = /^(MUL|CHAR|SLAX|SRAX|SLC|SRC)$/; // they alter rA and rX
+const ONE = { ADD: "A", SUB: "A", DIV: "A", NUM: "A", SLA: "A", SRA: "A", MOVE: "I1", JMP: "J" };
 const nameIn = (part) => (part === "cmp" ? "the comparison" : nameOf(part));
 
 // The part that is asked about, or "jump", or "". What becomes of a part does not decide it, so the
@@ -17,14 +17,14 @@ const nameIn = (part) => (part === "cmp" ? "the comparison" : nameOf(part));
 export function subjectOf(/** @type {View} */ { state, next }) {
   const { operation, address } = next?.instruction || {};
   if (!operation || !next.items || state.ahead > 0) return "";
-  const { name, uses, sentence, register } = OPERATIONS.get(operation);
+  const row = OPERATIONS.get(operation);
+  const { name, register } = row;
   if (name.startsWith("CMP")) return "cmp";
-  if (uses === "jump" && sentence.includes(" if ")) return address === String(next.location + 1) ? "" : "jump";
+  if (conditionOf(row)) return address === String(next.location + 1) ? "" : "jump";
   const isTurn = MAY_OVERFLOW.test(operation) && next.number % OVER_EVERY === 0;
   if (isTurn || itemOf(next, "over")) return "over";
-  const told = filled(sentence, { r: register, cell: `cell ${address}` });
-  const parts = (BECOMES.exec(told) || []).slice(1).filter(Boolean);
-  return parts.length > 0 ? parts[next.number % parts.length].replace(/^r/, "") : "";
+  if (BOTH.test(operation)) return ["A", "X"][next.number % 2];
+  return ONE[operation] ?? (name.startsWith("ST") ? `cell ${address}` : register.slice(1));
 }
 
 // A number, or that of some bytes with their sign; nothing where a text is neither.
@@ -62,7 +62,6 @@ export class Predict {
   isLent = false; // the focus, to Step while there is nothing to ask
 
   constructor(/** @type {Store} */ store) {
-    store.on("view", (view, _, before) => this.meet(view, before));
     store.on("texts", () => this.ask(""));
     on("predict", "change", () => store.session && store.look());
     on("guess-form", "submit", (event) => {
@@ -82,7 +81,7 @@ export class Predict {
 
   showScore() { put($("score"), this.kept && `${this.kept} right`); }
 
-  // Before the others are shown a view, which do not see then what is asked.
+  // What a view has besides, which does not have then what is asked.
   meet(/** @type {View} */ view, /** @type {View} */ before) {
     const { state, change, inField } = view;
     const isStep = before?.asked && state.done === before.state.done + 1 && !isCommand(change);
@@ -91,16 +90,14 @@ export class Predict {
     if (verdict) {
       this.asked += 1;
       this.right += verdict.isRight ? 1 : 0;
-      view.judged = `${verdict.isRight ? "Right" : "Wrong"}, ${verdict.told}. `;
       this.showScore();
     }
-    view.asked = $("predict").checked ? subjectOf(view) : "";
+    const judged = verdict ? `${verdict.isRight ? "Right" : "Wrong"}, ${verdict.told}. ` : "";
+    const asked = $("predict").checked ? subjectOf(view) : "";
     if (before) $("guess").value = "";
-    if (view.asked) {
-      view.next = { ...view.next, items: [] };
-      view.inField = { ...inField, next: view.next };
-    }
-    this.ask(view.asked);
+    this.ask(asked);
+    const next = asked ? { ...view.next, items: [] } : view.next;
+    return { asked, judged, next, inField: asked ? { ...inField, next } : inField };
   }
 
   // Where the focus is in the answer, it goes to the next one.

@@ -1,5 +1,4 @@
 // A range of cells, whose ends a person writes as W-values.
-
 import { $, mark, put } from "./dom.js";
 
 export const CELLS = 4000;

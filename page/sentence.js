@@ -1,9 +1,8 @@
 // What the last change did and what the next step will do, as a sentence each, by the values of the
 // engine; the status.
-
 import { counted, fourDigits, listed } from "./dom.js";
 import { refusalOf } from "./machine.js";
-import { OPERATIONS, filled } from "./operations.js";
+import { CHARACTERS, OPERATIONS, conditionOf, filled } from "./operations.js";
 import { WHOLE } from "./session.js";
 
 export const COMPARED = { L: "less", E: "equal", G: "greater" };
@@ -22,6 +21,19 @@ export function nameOf(part) {
 // the machine does not show it.
 export function isJump(/** @type {Change} */ change) {
   return change.locationAfter !== change.location + 1 || Boolean(itemOf(change, "J"));
+}
+
+// A word in a sentence: its number if that is small, else its letters, or its sign and bytes.
+export function toldWord(word, number) {
+  if (number !== undefined && Math.abs(Number(number)) < LARGE) return number;
+  const letters = word.split(" ").slice(1).map((byte) => CHARACTERS[Number(byte)] ?? "?").join("");
+  return number && word.startsWith("+") && /^[A-Z\d ]+$/.test(letters) ? `“${letters.trimEnd()}”` : word;
+}
+
+// The word that a number is.
+export function wordOf(number) {
+  const bytes = [4, 3, 2, 1, 0].map((place) => Math.floor(Math.abs(Number(number)) / 64 ** place) % 64);
+  return [String(number).startsWith("-") ? "-" : "+", ...bytes.map((byte) => String(byte).padStart(2, "0"))].join(" ");
 }
 
 const fieldName = (f) => (f === WHOLE ? "" : `(${f >> 3}:${f & 7})`);
@@ -50,49 +62,47 @@ function alterationsOf(/** @type {Change} */ { items }, /** @type {View} */ { un
       const output = operation === "IOC" ? `${part} begins a new page` : `${part} writes row ${rows + more}`;
       return { output, place: `${part} goes to block ${after}` }[what];
     }
-    const told = (word, number) => (number && Math.abs(Number(number)) < LARGE ? number : word);
-    return `${nameOf(part)} from ${told(before, beforeValue)} to ${told(after, afterValue)}`;
+    return `${nameOf(part)} from ${toldWord(before, beforeValue)} to ${toldWord(after, afterValue)}`;
   }).filter(Boolean);
 }
 
 // What decides whether the program jumps.
-function factOf({ sentence, register }, f, /** @type {View} */ { state, units }) {
-  if (!sentence.includes(" if ")) return "";
+function factOf(row, f, /** @type {View} */ { state, units }) {
+  const condition = conditionOf(row);
+  if (!condition) return "";
   const { clock, cmp, over, registers } = state;
   const until = units.find(({ unit }) => unit === f)?.until || "0";
-  const facts = {
-    comparison: COMPARED[cmp],
-    overflow: over ? "on" : "off",
-    unit: BigInt(until) > BigInt(clock) ? `busy until ${until}` : "ready",
-    "{r}": registers.find(({ name }) => `r${name}` === register)?.number,
-  };
-  return `; it is ${facts[Object.keys(facts).find((name) => sentence.includes(name))]}`;
+  const unit = BigInt(until) > BigInt(clock) ? `busy until ${until}` : "ready";
+  const fact = { unit, cmp: COMPARED[cmp], over: over ? "on" : "off" }[condition];
+  return `; it is ${fact ?? registers.find(({ name }) => `r${name}` === condition).number}`;
 }
 
+// The instruction, and what it will do.
 function nextOf(/** @type {View} */ view, /** @type {Listing} */ listing) {
   const { next, state: { cmp, registers } } = view;
-  if (isCommand(next)) return `${next.text}: ${listed(alterationsOf(next, view), MOST_PARTS)}`;
+  if (isCommand(next)) return [next.text, listed(alterationsOf(next, view), MOST_PARTS)];
   const { operation, field: f, address: m, value } = next.instruction || {};
   const name = named(next, operation, listing);
-  if (view.asked) return name;
-  if (!next.items) return `${name}: a step would be a fault, ${next.exceptionId} ${next.description}`;
+  if (view.asked) return [name];
+  if (!next.items) return [name, `a step would be a fault, ${next.exceptionId} ${next.description}`];
   const row = OPERATIONS.get(operation);
-  const V = `${value} (cell ${m}${fieldName(f)})`;
+  const V = `${value && toldWord(wordOf(value), value)} (cell ${m}${fieldName(f)})`;
   if (row.name.startsWith("CMP")) {
     const after = itemOf(next, "cmp")?.after || cmp;
-    const whole = f === WHOLE && registers.find((each) => `r${each.name}` === row.register).number;
+    const held = registers.find((each) => `r${each.name}` === row.register);
+    const whole = f === WHOLE && toldWord(held.word, held.number);
     const becomes = `the comparison ${after === cmp ? "stays" : "becomes"} ${COMPARED[after]}`;
-    return `${name}: ${whole || row.register + fieldName(f)} is ${THAN[after]} ${V}, so ${becomes}`;
+    return [name, `${whole || row.register + fieldName(f)} is ${THAN[after]} ${V}, so ${becomes}`];
   }
-  const M = /[-+] ?\{M\}/.test(row.sentence) && m.startsWith("-") ? `(${m})` : m;
+  const M = /^(INC|DEC|ENN)/.test(row.name) && m.startsWith("-") ? `(${m})` : m;
   const [cell, line] = [`cell ${m}${fieldName(f)}`, whereIs(Number(m), listing)];
   const will = filled(row.sentence, { r: row.register, M, V, cell, line, F: String(f) });
-  if (row.uses === "jump") return `${name}: ${will}${factOf(row, f, view)}`;
+  if (row.uses === "jump") return [name, `${will}${factOf(row, f, view)}`];
   const parts = alterationsOf(next, view, operation, 1);
-  const subject = `${will.split(" becomes ")[0]} `;
-  const isPlain = parts.length === 1 && parts[0].startsWith(`${subject}from`);
-  if (isPlain) return `${name}: ${will}, ${parts[0].slice(subject.length)}`;
-  return [name, will, ...(parts.length > 0 ? [listed(parts, MOST_PARTS)] : [])].join(": ");
+  const subject = nameOf(next.items[0]?.part ?? "");
+  const isPlain = parts.length === 1 && will.startsWith(`${subject} becomes `);
+  if (isPlain) return [name, `${will}, ${parts[0].slice(subject.length + 1)}`];
+  return [name, will, ...(parts.length > 0 ? [listed(parts, MOST_PARTS)] : [])];
 }
 
 // Of a view as it is after the change.
@@ -100,43 +110,45 @@ function didOf(/** @type {Change} */ change, /** @type {View} */ view, listing) 
   const { location, text, time } = change;
   const { state } = view;
   const none = "nothing is altered";
-  if (isCommand(change)) return `${text}: ${listed(alterationsOf(change, view), MOST_PARTS) || none}`;
+  if (isCommand(change)) return [text, listed(alterationsOf(change, view), MOST_PARTS) || none];
   const { operation, address } = change.instruction;
   const [row, did] = [OPERATIONS.get(operation), alterationsOf(change, view, operation)];
   if (row.uses === "jump") {
     const isTaken = ["JMP", "JSJ"].includes(operation) || isJump(change);
-    const isUnseen = !isTaken && address === String(location + 1);
-    const at = whereIs(state.location, listing);
+    const [isUnseen, at] = [!isTaken && address === String(location + 1), whereIs(state.location, listing)];
     did.unshift(isTaken ? `jumps to ${at}` : isUnseen ? `goes on at ${at}` : "does not jump");
   }
   if (did.length === 0 && row.name.startsWith("CMP")) did.push(`the comparison stays ${COMPARED[state.cmp]}`);
   if (operation === "HLT") did.push("halts");
-  return `${named(change, operation, listing)}: ${listed(did, MOST_PARTS) || none} (${time} u)`;
+  return [named(change, operation, listing), `${listed(did, MOST_PARTS) || none} (${time} u)`];
 }
 
 // What is told of a moment. `answer` is that to the command which led to it from the view `before`;
 // without one the moment is only looked at.
 export function toldOf(/** @type {Shown} */ { answer, before, view, listing }) {
   const { state, change, next: step } = view;
-  const was = before ? before.state.done : state.done;
-  const at = whereIs(state.location, listing);
-  const last = change ? didOf(change, view, listing) : "";
-  const next = step ? `Next: ${nextOf(view, listing)}.` : "";
-  const refusal = answer ? refusalOf(answer) : "";
-  const fault = answer?.body.fault;
+  const [was, at] = [before ? before.state.done : state.done, whereIs(state.location, listing)];
+  const [done, will] = [change ? didOf(change, view, listing) : [], step ? nextOf(view, listing) : []];
+  const [lastHere, nextHere] = [done, will].map((parts) => parts.slice(1).join(": "));
+  const last = done.join(": ");
+  const next = step ? `Next: ${will.join(": ")}.` : "";
+  const here = { last, lastHere, nextHere, isFault: false, isPlain: false };
+  const [refusal, fault] = [answer ? refusalOf(answer) : "", answer?.body.fault];
   if (fault) {
     const count = state.done - was;
     const steps = count > 0 ? ` ${counted(count, "step")} ${count === 1 ? "was" : "were"} done before it.` : "";
     const did = `Fault ${fault.exceptionId} ${fault.description}, at ${at}.${steps} The step was not done.`;
-    return { last, did, next, isFault: true };
+    return { ...here, did, next, isFault: true };
   }
   const help = refusal.startsWith("C1 ") ? ", Help has a list of the commands" : "";
-  if (refusal) return { last, did: `Refused: ${refusal}${help}.`, next, isFault: true };
+  if (refusal) return { ...here, did: `Refused: ${refusal}${help}.`, next, isFault: true };
   const rows = printed(before, view);
   const conflict = view.conflict ? `Conflict: ${view.conflict.text}. ` : "";
-  if (state.halted) return { last, did: conflict + haltedAt(state, was) + rows, next: "Back takes the HLT back." };
+  if (state.halted) return { ...here, did: conflict + haltedAt(state, was) + rows, next: "Back takes the HLT back." };
   const begin = listing.breakCells.includes(state.location) ? `Breakpoint at ${at}. ` : "";
-  return { last, did: (view.judged || "") + conflict + begin + wayOf(before, was, state, last, rows), next };
+  const isPlain = !view.judged && !conflict && !begin && !rows && Math.abs(state.done - was) <= 1;
+  const did = (view.judged || "") + conflict + begin + wayOf(before, was, state, last, rows);
+  return { ...here, did, next, isPlain };
 }
 
 function haltedAt(/** @type {State} */ { done, clock }, was) {
@@ -157,7 +169,7 @@ function printed(before, view) {
 function wayOf(/** @type {View} */ before, was, /** @type {State} */ { done, ahead }, last, rows) {
   const here = done === 0 ? "At the start." : `The last: ${last}.`;
   if (done === was) return (last ? `Did ${last}.` : here) + rows;
-  if (done === was - 1) return `Taken back: ${before.did}.${rows}`;
+  if (done === was - 1) return `Taken back: ${before.sentences.last}.${rows}`;
   if (done < was) return `${counted(was - done, "change")} taken back.${rows} ${here}`;
   if (done === was + 1) return `Did ${last}.${rows}`;
   const isRun = done === was + STEPS && ahead + before.state.ahead === 0;

@@ -1,12 +1,12 @@
 // A program with its units, and the commands that were given to it, each with its reply. Where the
 // engine has lost the session, or holds that of another text, it does the commands again.
-
 import { replyOf } from "./machine.js";
 import { Path } from "./path.js";
 
+const LOOKED_BACK = 32; // changes in which the last cell is looked for
 const MOST_WRITES = 1000; // that the engine tells at once
 export const WHOLE = 5; // the field (0:5)
-const WHERE = ["mix/state", { cells: [], nonzero: false }]; // how many changes are done
+export const WHERE = /** @type {Asked} */ (["mix/state", { cells: [], nonzero: false }]); // how many changes are done
 const ZERO = { word: "+ 00 00 00 00 00", number: "0", characters: "     ", value: "0" };
 export const repl = (expression) => ["evaluate", { expression, context: "repl" }];
 
@@ -33,6 +33,7 @@ export class Session {
     this.texts = texts;
     this.shown = shown;
     this.launched = null; // the answer to the launch
+    this.first = /** @type {Map<number, string>} */ (null); // the cells that were not zero at the start
     this.log = /** @type {Logged[]} */ ([]); // each command with its reply
     this.state = /** @type {Partial<State>} */ ({ done: 0, ahead: 0 }); // that after the last command
     this.at = 0; // so many changes are done in the engine
@@ -72,6 +73,7 @@ export class Session {
     const answers = await this.ask(asked, at);
     const [state, units, ...found] = answers.slice(commands.length).map(({ body }) => body);
     this.at = state.done;
+    const isSlid = commands.length === 1 && commands[0].startsWith("goto ");
     const logged = commands.map((command, index) => loggedOf(command, answers[index]));
     if (commands.length > 0) this.noticed(logged, state);
     const held = blocks.flatMap(([, { unit, block }], index) => {
@@ -82,10 +84,20 @@ export class Session {
     /** @type {View} */
     const view = {
       state, units: units.units, blocks: new Map(held), wordIn: (cell) => cells.get(cell) || ZERO,
-      altered: new Set(state.altered), field, line, told: line ? answers[answers.length - 1] : null,
+      altered: new Set(state.altered), lastCell: isSlid ? undefined : await this.lastCell(state.done, at), field,
+      line, told: line ? answers[answers.length - 1] : null,
       ...(await this.momentOf(state, field)),
     };
     return { answers, logged, view };
+  }
+
+  // The cell that was written last, after a way of more than a step.
+  async lastCell(done, from) {
+    const count = Math.abs(done - from) > 1 ? Math.min(LOOKED_BACK, done) : 0;
+    const asked = Array.from({ length: count }, (_, back) => ["mix/change", { number: done - back }]);
+    const parts = (await this.bodies(asked, done)).flatMap(({ items = [] }) => items.map(({ part }) => part));
+    const cell = parts.find((part) => part.startsWith("cell "));
+    return cell && Number(cell.slice(5));
   }
 
   // The last change and the next step, with the numbers of whole words, and in a field; how often
@@ -117,6 +129,7 @@ export class Session {
     const found = check.diagnostics;
     if (!this.launched.success) return { found, refusal: this.launched.body.error };
     const view = await this.look();
+    this.first ??= new Map(view.state.cells.map(({ cell, word }) => [cell, word]));
     this.state = view.state;
     return { found, program, view };
   }
@@ -185,34 +198,6 @@ export class Session {
 
   // The answer to a line that asks something of all changes.
   async told(line) { return (await this.ask([repl(line)], this.total))[0]; }
-
-  async mapWith(part) {
-    const [{ body: { units } }, map] = await this.ask([["mix/units", {}], repl("show map")], this.total);
-    return { map, marks: await this.marksOf(part, units) };
-  }
-
-  // The last changes that wrote to units and to a part. Of a unit that only prints, no more are
-  // asked for than it has printed since.
-  async marksOf(part, units) {
-    const { total, written } = this;
-    const printed = units.filter(({ rows }) => rows && rows.length > 0);
-    const sizes = printed.map(({ unit, rows, pages, unread }) => {
-      return [`unit ${unit}`, unread ? NaN : rows.length + pages.length];
-    });
-    const marks = [];
-    for (const [of, size] of part ? [...sizes, [part, NaN]] : sizes) {
-      const known = written.get(of) || { size: 0, numbers: [] };
-      const isMore = size - known.size <= MOST_WRITES; // otherwise all are asked for
-      const count = isMore ? size - known.size : MOST_WRITES;
-      const asked = count > 0 ? [["mix/writes", { part: of, count }]] : [];
-      const [{ writes } = { writes: [] }] = await this.bodies(asked, total);
-      const more = writes.map(({ number }) => number).reverse();
-      const numbers = [...(isMore ? known.numbers : []), ...more].slice(-MOST_WRITES);
-      written.set(of, { size, numbers });
-      if (numbers.length > 0) marks.push({ part: of, numbers });
-    }
-    return marks;
-  }
 
   async altersOf(cells) {
     const asked = cells.map((cell) => ["mix/writes", { part: `cell ${cell}`, count: 0, total: true }]);

@@ -1,7 +1,6 @@
 // The source in CodeMirror: colours, keys for columns, finding, folding, completion.
-
 import { kindOf } from "./colours.js";
-import { $, all, furnished, on } from "./dom.js";
+import { $, TURNS, all, furnished, make, nameOfTurn, on } from "./dom.js";
 import { explained, namesOfAll } from "./operations.js";
 
 const MOST_LETTERS = 1048576; // the engine takes no more bytes, and a browser draws a longer line for too long
@@ -15,6 +14,15 @@ export function tooLarge({ length }) {
   return length > MOST_LETTERS ? `it has ${found} letters, and a source has at most ${most} bytes` : "";
 }
 
+const SPECIAL = /[\u0000-\u001f\u007f-\u009f\u00ad\u061c\u200b\u200e\u200f\u2028\u2029\ufeff\ufff9-\ufffc]/;
+const specialChars = new RegExp(`${SPECIAL.source}|${TURNS.source}`);
+
+// What is seen of a character that otherwise is not: its number, of one that turns the direction.
+function specialCharPlaceholder(letter) {
+  const name = nameOfTurn(letter);
+  return make("span", { class: "cm-invalidchar", title: name, "aria-label": name }, letter.match(TURNS) ? name : "•");
+}
+
 const isRemark = (text) => text.startsWith("*");
 
 function operationAt(text) {
@@ -26,8 +34,7 @@ function operationAt(text) {
 // is broken off stays at its column, and so does an operation.
 function modeOf(grammar) {
   const begin = (text, state) => {
-    const column = operationAt(text) ?? state.column;
-    const isBlank = text !== "" && text.trim() === "";
+    const [column, isBlank] = [operationAt(text) ?? state.column, text !== "" && text.trim() === ""];
     Object.assign(state, grammar(text, state.open), { column, isBlank, indented: isRemark(text) ? 0 : column });
   };
   return () => ({
@@ -59,6 +66,17 @@ function foldAt(cm, { line }) {
   return { from: end(line), to: end(last) };
 }
 
+// A word alone at the column of the operation that is none is a label, and begins its line.
+function moveLabel(cm, told) {
+  const { line, ch } = cm.getCursor();
+  const text = cm.getLine(line);
+  const [, word] = /^[ \t]+([A-Z\d]*[A-Z][A-Z\d]*)$/i.exec(text) || [];
+  if (!word || ch !== text.length || namesOfAll().includes(word.toUpperCase())) return false;
+  cm.replaceRange(`${word.padEnd(FIELD_COLUMNS[1] - 1)} `, { line, ch: 0 }, { line, ch }, "+input");
+  told(`${word} is no operation, so it is a label now: a label begins in column 1.`);
+  return true;
+}
+
 // Over blanks or over the rest of a word; behind the text it makes blanks.
 function nextColumn(cm) {
   const { line, ch } = cm.getCursor();
@@ -84,17 +102,19 @@ function columnBefore(cm) {
 export class Source {
   // `edited` and `drawn` are called after an edit and when other lines are drawn, `refused` with
   // the reason why a text was not taken; `said` gives what is said of a line.
-  constructor(grammar, { edited, refused, drawn, said, symbols }) {
+  constructor(grammar, { edited, refused, moved, drawn, said, symbols }) {
     const { CodeMirror } = window;
     CodeMirror.defineMode("mixal", modeOf(grammar));
     const hints = (cm) => this.hints(cm, symbols());
     const complete = (cm) => cm.showHint({ hint: hints, completeSingle: false });
-    const extraKeys = { Tab: nextColumn, "Shift-Tab": columnBefore, "Ctrl-Space": complete };
+    const orElse = (work) => (cm) => moveLabel(cm, moved) || work(cm);
+    const keys = { Tab: orElse(nextColumn), Space: orElse(() => CodeMirror.Pass) };
+    const extraKeys = { ...keys, "Shift-Tab": columnBefore, "Ctrl-Space": complete };
     const gutters = ["beside", "CodeMirror-foldgutter"];
-    const off = { maxHighlightLength: 2000, electricChars: false, dragDrop: false };
+    const off = { specialChars, specialCharPlaceholder, maxHighlightLength: 2000, electricChars: false };
     this.cm = CodeMirror($("listing"), {
       mode: "mixal", theme: "mix", lineWrapping: true, gutters, foldGutter: { rangeFinder: foldAt }, extraKeys,
-      tabSize: TAB, viewportMargin: SHOWN_AROUND, screenReaderLabel: "Source", undoDepth: 1000, ...off,
+      tabSize: TAB, viewportMargin: SHOWN_AROUND, screenReaderLabel: "Source", undoDepth: 1000, dragDrop: false, ...off,
     });
     const { cm } = this;
     furnished(cm.getInputField(), {
@@ -151,10 +171,18 @@ export class Source {
     return { list: shown, from: { line, ch: ch - word.length }, to: { line, ch } };
   }
 
-  reveal(line) {
+  // Brings a line into view with what is told below it, and another one too if there is room.
+  reveal(line, other = 0) {
     const { cm } = this;
-    const around = Math.min(60, cm.getScrollInfo().clientHeight / 4);
-    if (line > 0 && line <= cm.lineCount()) cm.scrollIntoView({ line: line - 1, ch: 0 }, around);
+    const high = cm.getScrollInfo().clientHeight;
+    const spanOf = (first, last) => {
+      const [top, bottom] = [first - 1, last].map((at) => cm.heightAtLine(at, "local"));
+      return { left: 0, right: 0, top, bottom };
+    };
+    if (line < 1 || line > cm.lineCount()) return;
+    const both = other ? spanOf(Math.min(line, other), Math.max(line, other)) : null;
+    const span = both && both.bottom - both.top < high ? both : spanOf(line, line);
+    cm.scrollIntoView(span, Math.max(0, Math.min(60, (high - span.bottom + span.top) / 3)));
   }
 
   goTo(line, ch = 0) {

@@ -1,6 +1,5 @@
 // The texts, the session of what they say, and the moment that is seen. What is asked for is done
 // in its turn, and who has subscribed is told of what is new.
-
 import { partsOf } from "./bundle.js";
 import { copied, counted } from "./dom.js";
 import { Session } from "./session.js";
@@ -21,6 +20,7 @@ export class Store extends EventTarget {
   last = /** @type {Promise<any>} */ (Promise.resolve()); // of what is to be done
   left = 0; // so much still has to be done
   generation = 0;
+  completed = (/** @type {View} */ view, _, __) => view; // with its sentences
 
   // `read` gives the texts as they are now, and `shown` what a session has to look at too.
   constructor(machine, read, shown) {
@@ -33,7 +33,7 @@ export class Store extends EventTarget {
   // Calls `work` whenever something is new:
   // - "texts": others; with what was found in them, the refusal or the program, and the first view
   // - "program": it is accepted; "forget": another one was opened; "bundle": a text that may be one
-  // - "view": a moment is seen, with the answer that led to it and the view before
+  // - "view": a moment is seen, with the answer that led to it and the view before; "cells": others are shown
   // - "tell": something; "busy", "slow": whether it is; "failed": what went wrong
   on(what, work) { this.addEventListener(what, (/** @type {any} */ { detail }) => work(...detail)); }
   emit(what, ...given) { this.dispatchEvent(new CustomEvent(what, { detail: given })); }
@@ -134,10 +134,11 @@ export class Store extends EventTarget {
     return told && partsOf(text, told[0].body.parts);
   }
 
-  // `answer` is that to the command which led here from the moment of the view `before`.
+  // `answer` is that to the command which led here from the moment of the view `before`. A view is
+  // whole before it is shown, so those who are shown it may be so in any order.
   show(view, answer = null, before = null) {
-    this.view = view;
-    this.emit("view", view, answer, before);
+    this.view = this.completed(view, answer, before);
+    this.emit("view", this.view, answer, before);
   }
 
   look() {

@@ -1,24 +1,28 @@
 // Pictures of cells as SVG, which can be saved as they are. Their colours are those of the light
 // page; in the window the style of the page overrides them.
-
-import { fourDigits, furnished, tenths } from "./dom.js";
+import { furnished, tenths } from "./dom.js";
 
 const PLACE = "http://www.w3.org/2000/svg";
 export const LETTER = 6.7; // the width of a letter
-const HIGH = 90; // of the highest bar
-const TOP = 30;
-const WIDE = 720; // of a strip and of a map
+const WIDE = 720; // of a strip
 export const THICK = { "stroke-width": 2 };
 export const BOLD = { "font-size": 11, "font-weight": "bold" };
-const COLOURS = { ink: "#24211c", soft: "#5e5648", bar: "#224a69", mark: "#96281c", written: "#f6d98a" };
+const BOLDER = { "font-weight": "bold" };
+const BLUE = "#224a69";
+const COLOURS = { ink: "#24211c", soft: "#5e5648", bar: BLUE, mark: "#96281c", written: "#f6d98a", will: BLUE };
 export const shape = (name, given, ...children) => furnished(document.createElementNS(PLACE, name), given, children);
-export const solid = (kind) => ({ class: kind, fill: COLOURS[kind] });
+export const solid = (kind) => ({ class: kind, fill: COLOURS[kind] ?? COLOURS.ink });
 export const lined = (kind, colour, more) => ({ class: kind, fill: "none", stroke: COLOURS[colour], ...more });
 export const box = (x, y, width, height, more) => shape("rect", { x, y, width, height, ...more });
 const upright = (x, y2) => shape("line", { x1: x, x2: x, y1: 0, y2, ...lined("present", "mark", THICK) });
 export const label = (x, y, text, kind, more = {}) => {
   return shape("text", { x, y, ...solid(kind), "font-size": 10, "text-anchor": "middle", ...more }, text);
 };
+
+export function tipOf(id) {
+  const size = { viewBox: "0 0 8 8", refX: 7, refY: 4, markerWidth: 7, markerHeight: 7, orient: "auto" };
+  return shape("marker", { id, ...size }, shape("path", { d: "M 0 0 L 8 4 L 0 8 z", ...solid("bar") }));
+}
 
 export function picture({ id, title, text, width, height }, shapes) {
   const given = {
@@ -42,46 +46,91 @@ function runsOf(numbers) {
   return runs.filter(([number]) => number !== 0);
 }
 
+// Where bars stand in a box of some size with letters of `em`: `x` of a cell, `y` of a number.
+function placesOfBars(bars, arrows, { width, height, em }) {
+  const under = Math.max(1, ...arrows.map(({ cell }) => arrows.filter((other) => other.cell === cell).length));
+  const left = 6 * em;
+  const pitch = Math.min(7.5 * em, (width - left - em) / bars.length);
+  const foot = height - (1.2 + 1.1 * under + 0.9) * em;
+  const numbers = bars.flatMap(({ value, was, will }) => [value, was, will]);
+  const below = numbers.some((number) => number < 0) ? 1.3 * em : 0;
+  const { y } = scaled(numbers, 2.4 * em, foot - 3.6 * em - below);
+  const middle = (left + width - bars.length * pitch) / 2;
+  const first = Math.max(left, middle - left / 2);
+  const x = (cell) => first + (cell - bars[0].cell + 0.5) * pitch;
+  return { x, y, pitch, foot, em, width, from: first - 3.2 * em };
+}
+
+// The way of a value between a register, at the left, and the bar of a cell.
+function arcOf({ x, y, from, em }, bars, { cell, isLoad }) {
+  const { value, will, was } = bars.find((bar) => bar.cell === cell);
+  const [end, tip] = [x(cell) - (isLoad ? 0 : 1.6 * em), y(Math.max(0, value, will, was)) - (isLoad ? 1.4 : 0.8) * em];
+  const begin = y(0) - 2 * em;
+  const high = (0.5 * em - (begin + tip) / 8) / 0.75; // so its middle is above all bars
+  const ends = [[from, begin], [end, tip]];
+  const [[x1, y1], [x2, y2]] = isLoad ? ends.reverse() : ends;
+  const bends = [(3 * x1 + x2) / 4, high, (x1 + 3 * x2) / 4, high];
+  return `M ${Math.round(x1)} ${Math.round(y1)} C ${[...bends, x2, y2].map(Math.round).join(" ")}`;
+}
+
+function barOf(places, isTold, bar, name) {
+  const { x, y, pitch, foot, em } = places;
+  const { cell, value, was, isWritten, will, isNext, text: told } = bar;
+  const [left, wide] = [x(cell) - pitch * 0.38, pitch * 0.76];
+  const high = (of, more) => box(left, Math.min(y(of), y(0)), wide, Math.abs(y(of) - y(0)), more);
+  const look = { ...solid(isWritten ? "written" : "bar"), stroke: isWritten ? COLOURS.ink : "none", "stroke-width": 1 };
+  const parts = [high(value, look)];
+  const text = (at, words, kind, more) => label(x(cell), at, words, kind, { "font-size": em, ...more });
+  if (was !== value) parts.push(high(was, lined("was", "soft", { "stroke-dasharray": "3 2" })));
+  if (isNext) parts.push(high(will, lined("next", "bar", { "stroke-width": 3, "stroke-dasharray": "6 4" })));
+  const top = Math.min(...[0, value, isWritten ? was : 0].map(y));
+  const isUnder = isNext && y(will) < y(Math.max(0, value)) && y(0) - y(value) > 1.5 * em; // the frame is above
+  const at = value < 0 ? Math.max(y(value), y(was)) + 1.1 * em : isUnder ? y(value) + 1.2 * em : top - 0.35 * em;
+  if (isTold) parts.push(text(at, told, isUnder ? "ink inside" : "ink", isUnder ? { fill: "#ffffff" } : {}));
+  const over = Math.min(top, y(will)) - (isUnder ? 0.4 : 1.4) * em;
+  if (isNext && isTold) parts.push(text(over, `→ ${bar.willText}`, "will", BOLDER));
+  if (name) parts.push(text(foot, name, "soft", { "font-size": 0.8 * em }));
+  return shape("g", { "data-cell": cell, "data-part": `cell ${cell}` }, ...parts);
+}
+
 // `arrows` have a `name` and a `cell`, perhaps one beside the bars; `conflict` the `cell` that a
-// unit uses, and its `use`.
-export function barsOf({ title, text, bars, arrows, conflict }) {
-  const longest = LETTER * Math.max(...bars.map((bar) => bar.text.length));
-  const pitch = Math.min(Math.max(32, longest + 6), Math.max(7, 880 / bars.length));
-  const { least, y } = scaled(bars.flatMap(({ value, was, will }) => [value, was, will]), TOP, HIGH);
-  const isTold = longest <= pitch + 1;
-  const x = (cell) => (cell - bars[0].cell + 1.5) * pitch;
-  const foot = TOP + HIGH + (least < 0 ? 28 : 14);
-  const every = Math.ceil((4 * LETTER + 3) / pitch);
-  const bar = ({ cell, value, was, isWritten, will, isNext, text: told }, index) => {
-    const [left, wide] = [x(cell) - pitch * 0.4, pitch * 0.8];
-    const high = (of, more) => box(left, Math.min(y(of), y(0)), wide, Math.abs(y(of) - y(0)), more);
-    const look = { ...solid(isWritten ? "written" : "bar"), stroke: isWritten ? COLOURS.mark : "none", ...THICK };
-    const parts = [high(value, look)];
-    if (was !== value) parts.push(high(was, lined("was", "soft", { "stroke-dasharray": "3 2" })));
-    if (isNext) parts.push(high(will, lined("next", "bar", { "stroke-width": 1.5 })));
-    const above = Math.min(y(Math.max(0, value)), isWritten ? y(was) : Infinity);
-    const at = value < 0 ? Math.max(y(value), y(was)) + 12 : above - 4;
-    if (isTold) parts.push(label(x(cell), at, told, "ink", { "font-size": 11 }));
-    if (isWritten) parts.push(shape("circle", { cx: x(cell), cy: above - (isTold ? 18 : 6), r: 3, ...solid("mark") }));
-    if (index % every === 0) parts.push(label(x(cell), foot, fourDigits(cell), "soft"));
-    return shape("g", { "data-cell": cell, "data-part": `cell ${cell}` }, ...parts);
-  };
+// unit uses, and its `use`; `flow` the `cell`, the `register` and its `number` that the next step
+// brings together, and `moved` those of the step just done.
+export function barsOf({ title, text, bars, arrows, conflict, flow, moved, size, nameOf }) {
+  const places = placesOfBars(bars, arrows, size);
+  const { x, y, pitch, foot, from } = places;
+  const { width, height, em } = size;
+  const letter = 0.61 * em;
+  const isTold = letter * Math.max(...bars.map((bar) => bar.text.length)) <= pitch * 1.05;
+  const every = Math.ceil((0.8 * letter * Math.max(...bars.map(({ cell }) => nameOf(cell).length)) + 4) / pitch);
+  const drawn = bars.map((bar, index) => barOf(places, isTold, bar, index % every === 0 && nameOf(bar.cell)));
   const under = arrows.map(({ cell }, at) => arrows.slice(0, at).filter((other) => other.cell === cell).length);
   const arrow = ({ name, cell }, at) => {
-    const tip = under[at] > 0 ? [] : [shape("path", { d: `M ${x(cell)} ${foot + 4} l 5 9 h -10 z`, ...solid("mark") })];
-    return shape("g", { "data-arrow": name }, ...tip, label(x(cell), foot + 25 + 12 * under[at], name, "mark", BOLD));
+    const tip = `M ${x(cell)} ${foot + 0.2 * em} l ${0.45 * em} ${0.8 * em} h ${-0.9 * em} z`;
+    const word = label(x(cell), foot + (2 + 1.1 * under[at]) * em, name, "mark", { ...BOLD, "font-size": em });
+    const tips = under[at] > 0 ? [] : [shape("path", { d: tip, ...solid("mark") })];
+    return shape("g", { "data-arrow": name }, ...tips, word);
   };
-  const ends = { x1: pitch * 0.8, x2: (bars.length + 1.2) * pitch, y1: y(0), y2: y(0) };
-  const line = shape("line", { ...ends, ...lined("axis", "soft") });
-  const width = Math.max(160, (bars.length + 2) * pitch);
-  const height = foot + 30 + 12 * Math.max(0, ...under);
-  const shapes = [...bars.map(bar), line, ...arrows.map(arrow)];
-  if (!conflict) return picture({ id: "bars", title, text, width, height }, shapes);
-  const half = (LETTER * conflict.use.length) / 2 + 6;
-  const middle = Math.max(half, Math.min(width - half, x(conflict.cell)));
-  const frame = box(x(conflict.cell) - pitch / 2, 1, pitch, height, lined("conflict", "mark", THICK));
-  const use = label(middle, height + 14, conflict.use, "mark", BOLD);
-  return picture({ id: "bars", title, text, width, height: height + 20 }, [...shapes, frame, use]);
+  const ends = { x1: x(bars[0].cell) - pitch / 2, x2: x(bars[bars.length - 1].cell) + pitch / 2, y1: y(0), y2: y(0) };
+  const shapes = [...drawn, shape("line", { ...ends, ...lined("axis", "soft") }), ...arrows.map(arrow)];
+  if (flow) {
+    const look = { ...lined("arc", "bar", THICK), "marker-end": "url(#bars-tip)" };
+    const told = `${flow.register} ${flow.number}`;
+    shapes.push(tipOf("bars-tip"), shape("path", { d: arcOf(places, bars, flow), ...look }));
+    shapes.push(label(from, y(0) - em, told, "will", { ...BOLDER, "font-size": 1.05 * em }));
+  }
+  if (moved) {
+    const number = label(0, 0, moved.number, "flying", { ...BOLDER, "font-size": 1.1 * em, fill: BLUE });
+    number.dataset.way = arcOf(places, bars, moved);
+    shapes.push(number);
+  }
+  if (conflict) {
+    const half = (letter * conflict.use.length) / 2 + 6;
+    const middle = Math.max(half, Math.min(width - half, x(conflict.cell)));
+    shapes.push(box(x(conflict.cell) - pitch / 2, 1, pitch, height - 2, lined("conflict", "mark", THICK)));
+    shapes.push(label(middle, em, conflict.use, "mark", { ...BOLD, "font-size": em }));
+  }
+  return picture({ id: "bars", title, text, width, height }, shapes);
 }
 
 export function stripOf({ title, cells, columns, done }) {
@@ -105,37 +154,42 @@ export function stripOf({ title, cells, columns, done }) {
   return picture({ id: "strip", title: name, text, width: columns.length * wide, height }, shapes);
 }
 
-// `boxes` of a row are those of its columns that are dark, of so many `columns` of the same width;
+// Rows have a `name` and, of each column of `width` changes, how often its lines were executed;
 // `marks` are parts, each with the `numbers` of changes that wrote it, on a row of its own.
-export function mapOf({ title, text, rows, columns, marks, total, done }) {
-  const high = Math.max(3, Math.min(12, 300 / rows.length));
-  const left = LETTER * Math.max(4, ...marks.map(({ part }) => part.length)) + 8;
-  const every = Math.ceil(11 / high);
-  const named = (y, name, kind) => label(left - 4, y, name, kind, { "text-anchor": "end" });
+export function mapOf({ title, text, rows, columns, total, marks, size: { width, height, em } }) {
+  const names = [...rows, ...marks.map(({ part }) => ({ name: part }))].map(({ name }) => name);
+  const left = Math.min(0.5 * em * Math.max(4, ...names.map(({ length }) => length)) + 10, width / 4);
+  const [wide, high] = [width - left - 2, Math.min(1.3 * em, (height - 4) / Math.max(1, names.length))];
+  const every = Math.ceil((0.9 * em) / high);
+  const named = (row, kind) => {
+    const more = { "text-anchor": "end", "font-size": 0.8 * em };
+    return label(left - 5, 2 + row * high + Math.min(high * 0.8, em), names[row], kind, more);
+  };
+  const x = (change) => tenths(left + (Math.min(change, total) * wide) / Math.max(1, total));
   const outlines = new Map(); // of each shade all boxes, which are one shape
-  const x = (column) => tenths(left + (column * WIDE) / columns);
-  const shapes = rows.flatMap(({ cell, line, isBreak, boxes }, row) => {
-    const y = 4 + row * high;
-    for (const { from, to, dark } of boxes) {
-      const wide = tenths(x(to) - x(from));
-      outlines.set(dark, `${outlines.get(dark) || ""}M${x(from)} ${tenths(y)}h${wide}v${tenths(high)}h${-wide}z`);
+  const shapes = rows.flatMap(({ isBreak, darks }, row) => {
+    const y = tenths(2 + row * high);
+    for (const [dark, from, to] of runsOf(darks)) {
+      const [begin, end] = [x(from * columns), x(to * columns)];
+      const outline = `M${begin} ${y}h${tenths(end - begin)}v${tenths(high * 0.86)}h${-tenths(end - begin)}z`;
+      outlines.set(dark, `${outlines.get(dark) || ""}${outline}`);
     }
-    const tint = isBreak ? [box(left, y, WIDE, high, { ...solid("mark"), "fill-opacity": ".15" })] : [];
-    const name = named(y + Math.min(high, 10), line ? String(line) : fourDigits(cell), isBreak ? "mark" : "soft");
-    return [...tint, ...(row % every === 0 ? [name] : [])];
+    const tint = isBreak ? [box(left, y, wide, high, { ...solid("mark"), "fill-opacity": ".15" })] : [];
+    return [...tint, ...(row % every === 0 ? [named(row, isBreak ? "mark" : "soft")] : [])];
   });
   for (const [dark, d] of outlines) shapes.push(shape("path", { d, "fill-opacity": dark / 10, ...solid("bar") }));
-  const foot = 4 + rows.length * high;
-  marks.forEach(({ part, numbers }, row) => {
-    const y = foot + 4 + row * 12;
-    const places = new Set(numbers.map((number) => Math.round(left + (number / total) * WIDE)));
-    const tipAt = (x) => shape("path", { d: `M ${x} ${y} l 3 9 h -6 z`, ...solid("mark") });
-    shapes.push(named(y + 9, part, "mark"), ...[...places].map(tipAt));
+  marks.forEach(({ numbers }, at) => {
+    const row = rows.length + at;
+    const y = 2 + row * high;
+    const tips = [...new Set(numbers.map((number) => Math.round(x(number))))];
+    const tip = `${tenths(y)} l 3 ${tenths(high * 0.8)} h -6 z`;
+    const tipAt = (place) => shape("path", { d: `M ${place} ${tip}`, ...solid("mark") });
+    shapes.push(named(row, "mark"), ...tips.map(tipAt));
   });
-  const height = foot + 8 + marks.length * 12;
-  shapes.push(upright(left + (done / Math.max(1, total)) * WIDE, height));
-  shapes.push(box(left, 2, WIDE, height - 4, lined("field axis", "soft")));
-  return picture({ id: "map", title, text, width: left + WIDE + 4, height }, shapes);
+  const future = box(left, 1, wide, height - 2, { class: "to-come", fill: "#fffdf7", "fill-opacity": ".65" });
+  const present = upright(left, height);
+  shapes.push(future, box(left, 1, wide, height - 2, lined("field axis", "soft")), present);
+  return { svg: picture({ id: "map", title, text, width, height }, shapes), future, present, x };
 }
 
 // What is before the first of the writes, or behind the last, is drawn unless `isCut` says that

@@ -1,6 +1,5 @@
 // Tables of what the engine says of all changes: the counts of the book beside those measured, and
 // the passages of a line.
-
 import { $, counted, keepRows, make, mark, on, put } from "./dom.js";
 import { refusalOf } from "./machine.js";
 import { OPERATIONS } from "./operations.js";
@@ -11,8 +10,9 @@ const VERDICTS = { ok: HOLDS, true: HOLDS, no: FAILS, false: FAILS };
 const FORMULA = /^ *(\d+) +(\S+)  (ok|no|\?) +(\d+)  (.*)$/; // count, value, whether they are equal, line, its text
 
 export function csvOf(rows) {
+  const spelled = (text) => (/^(?!-\d+$)[=+@\t\r-]/.test(text) ? `'${text}` : text); // no formula of a spreadsheet
   const quoted = (text) => (/[",\n]/.test(text) ? `"${text.replaceAll('"', '""')}"` : text);
-  return rows.map((row) => `${row.map(quoted).join(",")}\n`).join("");
+  return rows.map((row) => `${row.map(spelled).map(quoted).join(",")}\n`).join("");
 }
 
 // What `show analysis` says: a row for each line that has a formula, and what is behind them.
@@ -82,9 +82,7 @@ class Table extends Picture {
     $(`${name}-copy`).disabled = rows.length === 0;
     $(`${name}-heads`).replaceChildren(...heads.map((text) => make("th", { scope: "col" }, text)));
     const here = rows.findLast(([first]) => Number(first) <= (view ? view.state.done : 0));
-    const fresh = ([first]) => {
-      return make("tr", {}, make("th", { scope: "row" }, make("button", { type: "button" }, first)));
-    };
+    const fresh = ([first]) => make("tr", {}, make("th", { scope: "row" }, make("button", { type: "button" }, first)));
     keepRows($(`${name}-rows`), rows, ([first]) => first, fresh, (row, words) => {
       const [sign, kind] = VERDICTS[words[words.length - 1]] || ["", "number"]; // only the last one is a verdict
       const cells = words.slice(1).map((word) => make("td", { class: "number" }, word));

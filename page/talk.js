@@ -1,9 +1,10 @@
 // The commands with their replies, and the script that came with a program.
-
+import { MADE } from "./bundle.js";
 import { $, between, counted, make, on, put } from "./dom.js";
 
 const LETTERS_SHOWN = 200000; // letters of a reply that are shown
 const ROWS_SHOWN = 10; // of a script
+const isToDo = (line) => line.trim() !== "" && !line.startsWith("*");
 
 export class Talk {
   shown = /** @type {Logged[]} */ ([]);
@@ -30,11 +31,14 @@ export class Talk {
       $("command").value = this.typed[this.at] || "";
     });
     on("script-lines", "input", () => Object.assign(store, { isEdited: true }));
-    for (const [id, count] of [["script-next", 1], ["script-all", Infinity]]) {
+    for (const [id, count] of [["script-next", 1], ["script-all", Infinity], ["link-all", Infinity]]) {
       on(id, "click", () => store.enqueue(() => this.act(this.first(count))));
     }
     store.on("view", () => this.show(store.session.log));
-    store.on("forget", () => this.show([]));
+    store.on("forget", () => {
+      this.show([]);
+      $("link-all").hidden = true;
+    });
   }
 
   answer(command, text) {
@@ -62,25 +66,34 @@ export class Talk {
     return this.store.did(found);
   }
 
+  // The commands of a link wait until somebody wants them.
+  wait() {
+    const count = this.first(Infinity).filter(isToDo).length;
+    $("link-all").hidden = count === 0;
+    if (count > 0) this.store.tell(`This link brings ${counted(count, "command")}, not done yet: Do all does them.`);
+  }
+
   // The first lines of the script with so many commands; comments and blank lines are none.
   first(count) {
     const { lines } = this;
-    const isCommand = (line) => line.trim() !== "" && !line.startsWith("*");
-    const last = lines.map((line, at) => (isCommand(line) ? at + 1 : 0)).filter(Boolean)[count - 1];
-    return lines.slice(0, last);
+    const given = lines.includes(MADE) ? lines.slice(0, lines.indexOf(MADE)) : lines;
+    const last = given.map((line, at) => (isToDo(line) ? at + 1 : 0)).filter(Boolean)[count - 1];
+    return given.slice(0, last);
   }
 
   // The commands of the script that are still to be done, which a person may alter.
   get lines() { return $("script-lines").value === "" ? [] : $("script-lines").value.split("\n"); }
 
   set lines(lines) {
-    Object.assign($("script-lines"), { value: lines.join("\n"), rows: between(1, lines.length, ROWS_SHOWN) });
+    const left = lines[0] === MADE ? lines.slice(1) : lines;
+    Object.assign($("script-lines"), { value: left.join("\n"), rows: between(1, left.length, ROWS_SHOWN) });
   }
 
   // Only what was typed is read out from here; the status tells the rest.
   show(log) {
     const box = $("log");
     this.agreed = "";
+    if (log.length > 0) $("link-all").hidden = true;
     const isMore = this.shown.every((entry, index) => entry === log[index]);
     if (!isMore) box.replaceChildren();
     const more = isMore ? log.slice(this.shown.length) : log;

@@ -1,9 +1,10 @@
 // Buttons, keys and the slider: ways through the changes, and the commands that they are.
-
 import { $, all, choose, on, put } from "./dom.js";
 import { toAnswer } from "./predict.js";
 import { STEPS } from "./sentence.js";
 
+const FIELDS = "textarea, select, input:not([type=range], [type=checkbox])"; // in which a letter is a letter
+const PIN = /^\*\s*at\s+(\d+):\s*(.*)$/gim; // a remark of the source about a moment
 const CONTROLS = all("#time [data-needs]"); // each is of use where there is what it needs
 
 export class Time {
@@ -18,12 +19,16 @@ export class Time {
       F1: () => store.tell(listing.source.caretExplained || "The cursor is at no operation."),
       "Control+Enter": () => {
         const isCommand = document.activeElement === $("command");
-        choose(isCommand ? "program" : "talk");
-        if (isCommand) listing.cm.focus();
-        else $("command").focus();
+        choose(isCommand ? "program" : "stage");
+        if (!isCommand) $("talk-box").open = true;
+        (isCommand ? listing.cm : $("command")).focus();
       },
+      r: () => $("read").click(),
+      w: () => $("wall").click(),
+      n: () => $("pin").click(),
     };
-    for (const button of CONTROLS.filter(({ type }) => type === "button")) {
+    on("pin", "click", () => this.toPin());
+    for (const button of CONTROLS.filter(({ type, id }) => type === "button" && id !== "pin")) {
       button.addEventListener("click", () => this.press(button));
       this.keys[button.getAttribute("aria-keyshortcuts")] = () => button.click();
     }
@@ -40,7 +45,8 @@ export class Time {
     on("stop", "click", () => store.machine.stop());
     document.addEventListener("keydown", (event) => {
       const { key, ctrlKey, shiftKey, altKey, metaKey } = event;
-      const work = this.keys[`${ctrlKey ? "Control+" : ""}${shiftKey ? "Shift+" : ""}${key}`];
+      const isTyped = key.length === 1 && event.target.closest(FIELDS);
+      const work = !isTyped && this.keys[`${ctrlKey ? "Control+" : ""}${shiftKey ? "Shift+" : ""}${key}`];
       if (!work || altKey || metaKey || document.querySelector("dialog[open]")) return;
       event.preventDefault();
       work();
@@ -49,6 +55,25 @@ export class Time {
     for (const what of ["failed", "forget"]) store.on(what, () => this.show(false));
     store.on("texts", ({ refusal }) => {
       if (refusal) for (const control of CONTROLS) control.disabled = true;
+    });
+  }
+
+  // What remarks say of moments.
+  get pins() {
+    const pins = [...this.listing.text.matchAll(PIN)].map(([, moment, text]) => ({ moment: Number(moment), text }));
+    return pins.sort((one, other) => one.moment - other.moment);
+  }
+
+  pinAt(done) { return this.pins.filter(({ moment }) => moment === done).map(({ text }) => text).join("; "); }
+
+  // To the next moment that a remark names, behind the last one to the first.
+  toPin() {
+    const { store } = this;
+    store.enqueue(() => {
+      const { done, ahead, total } = store.session;
+      const { moment } = this.pins.find((pin) => pin.moment > done) || this.pins[0] || { moment: done };
+      const more = `run ${moment - total}`;
+      return store.act(moment <= total ? [`goto ${moment}`] : ahead > 0 ? ["forth all", more] : [more], store.view);
     });
   }
 
@@ -99,7 +124,8 @@ export class Time {
     put($("total"), String(total));
     const where = `location ${state.location}, clock ${state.clock}`;
     $("slider").setAttribute("aria-valuetext", `change ${state.done} of ${total}, ${where}`);
-    const has = { done, ahead, total, way: !isHalted, halt: isHalted };
+    const has = { done, ahead, total, way: !isHalted, halt: isHalted, pins: this.pins.length };
+    put($("clock"), ` · clock ${Number(state.clock).toLocaleString("en")} u`);
     for (const control of CONTROLS) {
       const is = Boolean(has[control.dataset.needs]);
       const isKept = !is && control === document.activeElement;

@@ -1,7 +1,6 @@
 // A tour of six steps for who opens the page first. It takes no key and no click from the page, and
 // goes away when something else is done before its second step. After it was closed the address
 // ends in #no-tour, and opens without it.
-
 import { $, all, choose, on, put } from "./dom.js";
 
 export const NO_TOUR = "#no-tour";

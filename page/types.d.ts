@@ -6,6 +6,7 @@ type Store = import("./store.js").Store;
 type Session = import("./session.js").Session;
 type Listing = import("./listing.js").Listing;
 type Check = import("./check.js").Check;
+type Stage = import("./stage.js").Stage;
 type Memory = import("./memory.js").Memory;
 
 interface Word { word: string; number: string; characters: string }
@@ -45,10 +46,11 @@ interface View {
   times: Uint32Array; // how often cells were executed
   units: Unit[];
   blocks: Map<string, Word[]>; // those that are shown, as "8 0"
-  wordIn: (cell: number) => Word & { value: string; instruction?: Instruction };
+  wordIn: (cell: number) => Word & { value: string; text?: string; instruction?: Instruction };
   altered: Set<string>; // parts, by the last change
   conflict?: Conflict; // at which the run stopped
-  did?: string; // the sentence of the last change
+  lastCell?: number; // that which was written last
+  sentences?: any; // on the last change and the next step, and of the status
   asked?: string; // the part of which a person predicts what the next step makes of it, or "jump"
   judged?: string; // what is told of the prediction of the last change
 }
@@ -68,6 +70,6 @@ interface Element { hidden: boolean; title: string; offsetTop: number; offsetHei
 interface ChildNode { getBoundingClientRect(): DOMRect }
 interface Node { contains(other: EventTarget | null): boolean }
 interface EventTarget { closest(selector: string): any }
-interface Array<T> { findLast(test: (item: T) => boolean): T | undefined }
+interface Array<T> { findLast(test: (item: T) => any): T | undefined; findLastIndex(test: (item: T) => any): number }
 declare class CompressionStream { constructor(format: string); readable: ReadableStream; writable: WritableStream }
 declare class DecompressionStream { constructor(format: string); readable: ReadableStream; writable: WritableStream }

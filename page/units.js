@@ -1,7 +1,5 @@
 // The units: what was written, what is still to be read, tapes and disks by block.
-
 import { $, all, counted, keepRows, make, put } from "./dom.js";
-import { rowsIn } from "./sentence.js";
 
 const CARDS_SHOWN = 200; // cards
 const capital = (text) => text[0].toUpperCase() + text.slice(1);
@@ -21,26 +19,26 @@ export class Units {
   }
 
   show(/** @type {View} */ view) {
-    const { state, units, blocks, altered } = view;
-    const rows = rowsIn(view);
+    const { state, units, blocks, altered, change } = view;
     const isRead = (/** @type {Unit} */ { unread, blocks: held }) => unread && held + unread.length > 0;
     const used = units.filter((unit) => !unit.rows || unit.delay !== "0" || isRead(unit));
     const fresh = ({ unit }) => make("div", { class: "unit", "data-unit": unit });
-    put($("tab-rows"), rows > 0 ? ` ${rows.toLocaleString("en")}` : "");
     keepRows($("unit-list"), used, ({ unit }) => unit, fresh, (box, unit) => {
       const busy = busyOf(unit, state);
-      const open = [...blocks].filter(([key]) => key.startsWith(`${unit.unit} `));
-      const drawn = JSON.stringify([{ ...unit, rows: 0, pages: 0 }, busy, open]);
+      const open = [...blocks].filter(([key]) => key.startsWith(`${unit.unit} `) && this.open.has(key));
+      const isOut = unit.kind === "tape" && change?.instruction?.operation === "OUT"; // it writes where the head was
+      const items = (change?.items || []).filter(({ part }) => part === `unit ${unit.unit}`);
+      const written = items.map(({ block, what, before }) => (isOut && what === "place" ? Number(before) : block));
+      const drawn = JSON.stringify([{ ...unit, rows: 0, pages: 0 }, busy, open, written]);
       box.classList.toggle("altered", altered.has(`unit ${unit.unit}`));
       if (box.drawn === drawn) return;
       box.drawn = drawn;
-      const labelOf = (element) => element && element.getAttribute("aria-label");
-      const focused = box.contains(document.activeElement) && labelOf(document.activeElement);
+      const focused = box.contains(document.activeElement) && document.activeElement.ariaLabel;
       const delay = unit.delay === "0" ? "" : `, delay ${unit.delay} u`;
       const title = make("h3", {}, make("b", {}, capital(unit.kind)), ` unit ${unit.unit}${delay}${busy}`);
-      box.replaceChildren(title, ...(unit.unread ? this.unread(unit) : unit.rows ? [] : this.blocks(unit, blocks)));
-      const again = focused && all("[aria-label]", box).find((element) => labelOf(element) === focused);
-      if (again) again.focus();
+      const shown = unit.rows ? [] : this.blocks(unit, open, written);
+      box.replaceChildren(title, ...(unit.unread ? this.unread(unit) : shown));
+      if (focused) all("[aria-label]", box).find(({ ariaLabel }) => ariaLabel === focused)?.focus();
     });
   }
 
@@ -56,27 +54,26 @@ export class Units {
     return [make("p", {}, `${read}; still to be read:`), region];
   }
 
-  blocks({ unit, place, blocks }, found) {
-    const list = Array.from({ length: blocks }, (_, block) => {
-      const key = `${unit} ${block}`;
-      const text = (found.get(key) || []).map(({ word }, index) => word + (index % 5 === 4 ? "\n" : "   ")).join("");
-      const name = `block ${block}`;
-      const head = make("summary", { "aria-label": name }, `${name}${block === place ? ", the next" : ""}`);
-      const given = { class: `block${block === place ? " next" : ""}`, open: this.open.has(key) };
-      const toggle = ({ target }) => this.toggled(key, target.open);
-      return make("details", { ...given, toggle }, head, regionOf("pre", `words of ${name}`, {}, text));
+  // A strip of blocks, with the head at the next one; a click on a block shows its words.
+  blocks({ unit, place, blocks }, open, written) {
+    const list = Array.from({ length: blocks + 1 }, (_, block) => {
+      const [isNext, isNew] = [block === place, written.includes(block)];
+      const kind = `block${isNext ? " head" : ""}${isNew ? " altered" : ""}`;
+      if (block === blocks) return make("span", { class: `${kind} end` });
+      const [key, told] = [`${unit} ${block}`, `${isNext ? ", the next" : ""}${isNew ? ", just written" : ""}`];
+      const given = { type: "button", "aria-expanded": String(this.open.has(key)), click: () => this.toggle(key) };
+      return make("button", { ...given, class: kind, "aria-label": `block ${block}${told}` }, String(block));
     });
-    return [make("p", {}, `at block ${place} of ${blocks}`), ...list];
+    const words = open.map(([key, each]) => {
+      const text = each.map(({ word }, index) => word + (index % 5 === 4 ? "\n" : "   ")).join("");
+      return regionOf("pre", `words of block ${key.split(" ")[1]}`, {}, text);
+    });
+    return [make("p", {}, `at block ${place} of ${blocks}`), make("div", { class: "tape" }, ...list), ...words];
   }
 
-  toggled(key, isOpen) {
-    const { store, open } = this;
-    if (isOpen === open.has(key)) return;
-    if (!isOpen) open.delete(key);
-    else {
-      open.add(key);
-      store.look();
-    }
+  toggle(key) {
+    this.open[this.open.has(key) ? "delete" : "add"](key);
+    this.store.look();
   }
 }
 

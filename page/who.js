@@ -1,5 +1,4 @@
 // Who wrote this? The last change of a part, all others, the ways there, and a field to set it.
-
 import { $, counted, fourDigits, make, on, put } from "./dom.js";
 import { refusalOf } from "./machine.js";
 import { heldIn } from "./memory.js";

@@ -1,5 +1,4 @@
 // The engine in a thread of its own. This follows the text of engine.js in the worker's program.
-
 let engine = null;
 
 self.onmessage = async ({ data: { module, isNew, frames } }) => {
