@@ -2,9 +2,9 @@
 use Rattle.std.specs.Prelude.{ℕ, ◌-◌, ◌^◌, List, [], ◌∷◌, codes, Bool, false, Option, None, Some, is_some, nat_le, if◌then◌else◌}
 use Rattle.serde_json.specs.Data.{Data}
 use Rattle.serde_json.specs.Find.{as_array, as_bool, as_object, as_str}
-use Rattle.dap_message.specs.Request.{are_arguments, argument_of, list_of, member_of}
-use Rattle.dap_message.specs.Whole.{integer_in, natural_in}
-use Rattle.dap_message.specs.declared.request.Request.{Request}
+use Rattle.rpc_message.specs.Request.{are_arguments, argument_of, list_of, member_of}
+use Rattle.rpc_message.specs.Whole.{integer_in, natural_in}
+use Rattle.rpc_message.specs.declared.request.Request.{Request}
 use Rattle.dap_asked.specs.ArgumentName.{argument_name}
 use Rattle.dap_asked.specs.Entries.{entries_of}
 use Rattle.dap_asked.specs.declared.arguments.Argument.{Argument}

@@ -1,8 +1,8 @@
 -- What a request is about, by its name, and whether its arguments are what they have to be.
 use Rattle.std.specs.Prelude.{ℕ, List, [], ◌∷◌, codes, Bool, true, false, Option, None, Some, Result, Ok, Err, if◌then◌else◌}
 use Rattle.std.specs.Str.{bytes_eq}
-use Rattle.dap_message.specs.Request.{name_of}
-use Rattle.dap_message.specs.declared.request.Request.{Request}
+use Rattle.rpc_message.specs.Request.{name_of}
+use Rattle.rpc_message.specs.declared.request.Request.{Request}
 use Rattle.dap_asked.specs.Arguments.{misread}
 use Rattle.dap_asked.specs.declared.arguments.name.ArgumentName.{ArgumentName}
 use Rattle.dap_asked.specs.declared.fault.Fault.{Fault}

@@ -1,8 +1,6 @@
 -- What is looked at: the one thread, its one frame, which is the instruction at the location with its line, the scopes, and the fault of a run.
 use Rattle.std.specs.Prelude.{ℕ, ◌+◌, ◌-◌, ◌^◌, min, Option, None, Some, option_and_then}
-use Rattle.mixal_asm.specs.PassOne.{SourceValue, Line, OfLiteral, OfName}
-use Rattle.mixal_asm.specs.Program.{ProgramValue}
-use Rattle.mixal_asm.specs.Source.{source_at}
+use Rattle.mixal_asm.specs.Prelude.{SourceValue, Line, OfLiteral, OfName, ProgramValue, source_at}
 
 -- the same line as the source counts it, from 1 on: a number of 64 bits
 abbrev pub source_line : ℕ → ℕ → ℕ

@@ -1,7 +1,7 @@
 -- The bytes of the memory that a client asks for.
 use Rattle.std.specs.Prelude.{ℕ, ℤ, pos, List, codes, Result, ok_or, unwrap_or}
-use Rattle.dap_message.specs.Request.{text_of, integer_of}
-use Rattle.dap_message.specs.declared.request.Request.{Request}
+use Rattle.rpc_message.specs.Request.{text_of, integer_of}
+use Rattle.rpc_message.specs.declared.request.Request.{Request}
 use Rattle.dap_asked.specs.Layout.{byte_of_reference}
 use Rattle.dap_asked.specs.declared.fault.Fault.{Fault}
 use Rattle.dap_asked.specs.declared.fault.Fault.TheVariants as fault

@@ -3,8 +3,7 @@ use Rattle.std.specs.Prelude.{ℕ, ◌+◌, ◌-◌, ◌/◌, ◌==◌, ◌&&◌
 use Rattle.std.specs.Option.{option_map}
 use Rattle.std.specs.Str.{bytes_eq}
 use Rattle.mix_lines.specs.Number.{decimal_number}
-use Rattle.mix_word.specs.Register.{register_named}
-use Rattle.mix_word.specs.Uses.{unit_count}
+use Rattle.mix_word.specs.Prelude.{register_named, unit_count}
 use Rattle.mix_machine.specs.declared.part.Part.{Part}
 use Rattle.mix_machine.specs.declared.part.Part.TheVariants as part
 use Rattle.dap_asked.specs.declared.scope.Scope.{Scope}

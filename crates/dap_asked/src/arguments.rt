@@ -10,8 +10,8 @@ mod table;
 
 use crate::entry::entries_of;
 use crate::kind::Kind;
-use dap_message::{Request, integer, member_of, natural};
 pub use name::ArgumentName;
+use rpc_message::{Request, integer, member_of, natural};
 use serde_json::Value;
 use table::{arguments_of, members_of};
 

@@ -7,11 +7,11 @@ use crate::fault::Fault;
 use crate::kind::Act;
 use crate::scope::{Scope, flag_named, part_of, scope_of};
 use crate::watch::part_named;
-use dap_message::Request;
 use mix_machine::{Change, Part, Place, Reg, Sign, Word};
 use mix_session::{Refusal, Session};
 use mix_word::{Operation, named};
 use mixal_text::w_value;
+use rpc_message::Request;
 
 /// What is asked of the machine.
 #[derive(Clone, Copy)]

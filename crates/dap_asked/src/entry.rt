@@ -3,10 +3,10 @@
 ghost use Rattle.std.specs.Prelude.{◌≡◌, map};
 ghost use Rattle.std.specs.Option.{option_map};
 ghost use Rattle.serde_json.specs.View.{view};
-ghost use Rattle.dap_message.specs.Members.{text_in, number_in};
+ghost use Rattle.rpc_message.specs.Members.{text_in, number_in};
 ghost use Rattle.dap_asked.specs.Entries.{entries_of, integer_in};
 
-use dap_message::{Request, integer, natural};
+use rpc_message::{Request, integer, natural};
 use serde_json::Value;
 
 /// The entries of a list; none where there is no list.

@@ -4,10 +4,10 @@ ghost use Rattle.std.specs.Prelude.{◌≡◌, None, OnOk};
 ghost use Rattle.dap_asked.specs.Fault.{Refuses, fault_number};
 
 use crate::arguments::ArgumentName;
-use dap_message::{Outbox, Request};
 use mix_machine::DeckFault;
 use mix_refused::Memory;
 use mix_session::{AsmFault, Refusal};
+use rpc_message::{Outbox, Request};
 use serde_json::{Value, json};
 use std::alloc::Global;
 use std::fmt;

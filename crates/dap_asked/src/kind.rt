@@ -8,8 +8,8 @@ mod given;
 
 use crate::arguments::misread;
 use crate::fault::Fault;
-use dap_message::Request;
 pub use given::Given;
+use rpc_message::Request;
 
 /// What a request is about.
 #[derive(Clone, Copy)]

@@ -8,9 +8,9 @@ ghost use Rattle.dap_asked.specs.Memory.{integer_asked, start_asked};
 use crate::fault::Fault;
 use crate::layout::{MEMORY_BYTES, byte_of_reference, byte_reference, memory_byte};
 use base64::engine::general_purpose::STANDARD;
-use dap_message::{Fields, Request};
 use mix_machine::World;
 use mix_refused::{Memory, Refused};
+use rpc_message::{Fields, Request};
 use serde_json::Value;
 use std::alloc::Global;
 

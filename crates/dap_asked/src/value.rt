@@ -5,12 +5,12 @@ ghost use Rattle.dap_asked.specs.Value.{row_characters};
 
 use crate::deed::{Worth, hovered, worth_of};
 use crate::scope::{part_of, scope_of};
-use dap_message::Request;
 use mix_machine::{Part, Place, Reg, Word, World};
 use mix_refused::Memory;
 use mix_said::sentence;
 use mix_session::{Altered, Characters, Held, Session};
 use mix_word::Number;
+use rpc_message::Request;
 use std::alloc::Global;
 
 /// A word: its sign and bytes, and its number.

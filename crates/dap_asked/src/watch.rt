@@ -5,10 +5,10 @@ ghost use Rattle.dap_asked.specs.Watch.{part_named};
 
 use crate::fault::Fault;
 use crate::scope::{Scope, part_of, scope_of};
-use dap_message::Request;
 use mix_machine::Part;
 use mix_refused::{Memory, Refused};
 use mix_session::{Condition, Session};
+use rpc_message::Request;
 use serde_json::{Value, json};
 use std::alloc::Global;
 

@@ -5,7 +5,7 @@ use Rattle.serde_json.specs.Data.{Data}
 use Rattle.mix_lines.specs.Number.{number_up_to}
 use Rattle.mix_machine.specs.World.{WorldState}
 use Rattle.mix_session.specs.Session.{SessionState}
-use Rattle.dap_message.specs.Members.{text_in}
+use Rattle.rpc_message.specs.Members.{text_in}
 use Rattle.dap_points.specs.Comparison.{comparison_in, compares}
 use Rattle.dap_points.specs.declared.points.comparison.Comparison.{Comparison}
 use Rattle.dap_points.specs.declared.points.breakpoint.Breakpoint.{Breakpoint}

@@ -1,8 +1,7 @@
 -- Where a `goto` to a line of the source may lead.
 use Rattle.std.specs.Prelude.{ℕ, Option, unwrap_or}
 use Rattle.std.specs.Option.{option_map}
-use Rattle.mixal_asm.specs.Program.{ProgramValue}
-use Rattle.mixal_asm.specs.Source.{cell_from}
+use Rattle.mixal_asm.specs.Prelude.{ProgramValue, cell_from}
 use Rattle.dap_asked.specs.Look.{line_of_cell}
 
 -- the cell of the first word of the lines from one on, with the line that put the word there that the cell has now

@@ -3,9 +3,9 @@
 ghost use Rattle.std.specs.Prelude.{◌+◌, ◌^◌, ◌<◌, ◌≤◌, length};
 
 use dap_asked::Fault;
-use dap_message::Request;
 use mix_refused::{Memory, Refused};
 use mix_session::Session;
+use rpc_message::Request;
 use serde_json::{Value, json};
 use std::alloc::Global;
 

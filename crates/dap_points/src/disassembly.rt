@@ -4,11 +4,11 @@ use dap_asked::{
     CELL_BYTES, Fault, Name, byte_reference, integer_asked, line_for, line_of_cell, reference_of,
     source, start_of,
 };
-use dap_message::{Fields, Request};
 use mix_machine::Place;
 use mix_refused::{Memory, Refused};
 use mix_session::Session;
 use mix_word::Instruction;
+use rpc_message::{Fields, Request};
 use serde_json::{Value, json};
 use std::alloc::Global;
 

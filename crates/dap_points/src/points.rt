@@ -16,7 +16,6 @@ mod locations;
 mod source;
 
 use breakpoint::{Breakpoint, count_all, stop_any};
-use dap_message::Request;
 use filters::Filters;
 use joined::{both, cells_of};
 pub use kinds::never;
@@ -26,6 +25,7 @@ pub use locations::breakpoint_locations;
 use mix_machine::{Place, World};
 use mix_refused::Memory;
 use mix_session::{Condition, Session, Stops};
+use rpc_message::Request;
 use serde_json::Value;
 use source::is_source;
 use std::alloc::Global;

@@ -11,10 +11,10 @@ use dap_asked::{
     CELL_BYTES, Fault, MEMORY_BYTES, cell_name, line_for, memory_byte, place_at, source_line,
     start_of, word_of,
 };
-use dap_message::Request;
 use mix_machine::{Change, Place, Word, World};
 use mix_refused::{Memory, Refused};
 use mix_session::Session;
+use rpc_message::Request;
 use serde_json::{Value, json};
 use std::alloc::Global;
 

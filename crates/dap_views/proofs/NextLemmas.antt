@@ -1,8 +1,7 @@
 -- A step is told before it is done as it is told when it is done.
 use Rattle.std.proofs.Common.{◌≡◌, ◌-◌, length, refl}
 use Rattle.std.proofs.Math.Seq.{take-append_seam}
-use Rattle.mix_session.specs.Change.{world_at}
-use Rattle.mix_session.specs.Timeline.{Timeline, world_of}
+use Rattle.mix_session.specs.Prelude.{world_at, Timeline, world_of}
 
 -- the machine after all changes done is the one now
 pub machine_now : (t : Timeline) → world_at t (length t.changes) ≡ world_of t

@@ -4,11 +4,11 @@ mod pages;
 mod units;
 
 use dap_asked::{Fault, Scope, held, register_value, scope_of};
-use dap_message::{Fields, Request};
 use mix_machine::{Reg, World};
 use mix_refused::{Memory, Refused};
 use mix_session::Altered;
 use pages::{cells, pages};
+use rpc_message::{Fields, Request};
 use serde_json::{Value, json};
 use std::alloc::Global;
 use units::{entries, units};

@@ -3,8 +3,7 @@ use Rattle.std.specs.Prelude.{◌≡◌, ◌==◌, ℕ, Bool, true, false, not, 
 use Rattle.std.specs.List.{list_any, starts_with}
 use Rattle.json.specs.Print.{print}
 use Rattle.json.specs.Token.{Token}
-use Rattle.mixal_asm.specs.Diagnose.{diagnostics_of, is_warning}
-use Rattle.mixal_asm.specs.declared.diagnostic.Diagnostic.{Diagnostic}
+use Rattle.mixal_asm.specs.Prelude.{diagnostics_of, is_warning, Diagnostic}
 
 -- where a diagnostic is: `FILE:LINE:`
 unfoldable pub place_of : List ℕ → ℕ → List ℕ

@@ -1,14 +1,11 @@
 -- A talk over what a dialogue holds is a part of the dialogue.
 use Rattle.std.proofs.Common.{◌≡◌, inl, inr, ℕ, true, false, Option, None, Some, Result, Ok, Err, List, [], refl, sym, ap, subst, ◌∙◌}
 use Rattle.std.specs.Io.KnownBytes.{prepend_known}
-use Rattle.dap_frame.specs.Frame.{first_frame, partial}
-use Rattle.dap_stream.specs.BrokenOff.{BrokenOff}
-use Rattle.dap_stream.specs.Serving.{Phase, going, over}
-use Rattle.dap_stream.specs.Talk.{Talks}
-use Rattle.dap_stream.specs.Talked.{Ended, IsEnd, Stuck, TalkedAs, state_in}
-use Rattle.dap_stream.specs.declared.broken.Broken.{Broken}
-use Rattle.dap_stream.specs.declared.broken.Broken.TheVariants as broken
-use Rattle.dap_stream.proofs.Talking.{talks-none}
+use Rattle.rpc_frame.specs.Frame.{first_frame, partial}
+use Rattle.rpc_stream.specs.Prelude.{BrokenOff, Phase, going, over, Talks, Broken}
+use Rattle.rpc_stream.specs.Talked.{Ended, IsEnd, Stuck, TalkedAs, state_in}
+use Rattle.rpc_stream.specs.declared.broken.Broken.TheVariants as broken
+use Rattle.rpc_stream.proofs.Talking.{talks-none}
 use Rattle.mix_dap.specs.Dialogue.{Breaks, BreaksOff, DialogueAs, EndsAs, Exchanges, GoesAs, GoesOnAs, Halts, HeardAll, Reached, Stage, at_first, debugs, done, waiting}
 use Rattle.mix_dap.specs.Stage.{is_over}
 use Rattle.mix_stream.specs.Stream.{CountsFailure}

@@ -4,28 +4,17 @@ use Rattle.std.specs.Prelude.{IfOk, OnOk, codes, if◌then◌else◌}
 use Rattle.serde_json.specs.Data.{Data}
 use Rattle.mix_word.specs.Word.{WordValue}
 use Rattle.mix_refused.specs.declared.refused.Refused.{Refused}
-use Rattle.mix_session.specs.Command.{Effect, after}
-use Rattle.mix_session.specs.Session.{SessionState}
-use Rattle.mix_session.specs.Timeline.{Timeline, world_of}
-use Rattle.mix_session.specs.declared.answer.Answer.{Answer}
-use Rattle.mix_session.specs.declared.reply.End.{End}
-use Rattle.dap_message.specs.Message.{Adds, reply_message}
-use Rattle.dap_message.specs.Request.{text_of}
-use Rattle.dap_message.specs.declared.outbox.Outbox.{Outbox}
-use Rattle.dap_message.specs.declared.request.Request.{Request}
-use Rattle.dap_asked.specs.Deed.{deed_of, effect_of_deed, is_line, line_deed}
-use Rattle.mix_dap.specs.Console.{is_said, line_meant}
-use Rattle.mix_dap.specs.Ended.{end_told}
+use Rattle.mix_session.specs.Prelude.{Effect, after, SessionState, Timeline, world_of, Answer, End}
+use Rattle.rpc_message.specs.Prelude.{Adds, reply_message, text_of, Outbox, Request}
+use Rattle.dap_asked.specs.Prelude.{deed_of, effect_of_deed, is_line, line_deed, Refuses, Deed, Fault, Act, Kind}
+use Rattle.mix_dap.specs.Prelude.{is_said, line_meant, end_told, all_told, outputs, fault_at, out_of_memory}
 use Rattle.mix_dap.specs.Events.{AddsAnswer, AddsEvents, Event, invalidated, stopped}
-use Rattle.dap_asked.specs.Fault.{Refuses}
 use Rattle.mix_dap.specs.Leaves.{refusal_in}
-use Rattle.mix_dap.specs.Output.{all_told, outputs}
 use Rattle.dap_points.specs.Points.{PointsState}
 use Rattle.mix_dap.specs.Reaction.{Beside, Reaction, acted, asked_done, beside, console, line_done, reaction, reaction_to, refuses, replied_unless, said_or_done, still, unless, written}
 use Rattle.mix_dap.specs.Reacts.{Answered, GoesOn, IsSame, ReactsAs, Runs, flow_after}
 use Rattle.mix_dap.specs.Replies.{AddsReply, Denies, Refusal, Serves, answer_message}
 use Rattle.mix_dap.specs.Runs.{RunBroken, RunDone, why_of_run}
-use Rattle.mix_dap.specs.Stopped.{fault_at, out_of_memory}
 use Rattle.dap_points.specs.Written.{Written, write_asked}
 use Rattle.mix_dap.specs.declared.adapter.Adapter.{Adapter}
 use Rattle.mix_dap.specs.declared.adapter.Flow.{Flow}
@@ -33,11 +22,7 @@ use Rattle.mix_dap.specs.declared.adapter.Flow.TheVariants as flow
 use Rattle.mix_dap.specs.declared.adapter.Then.{Then}
 use Rattle.mix_dap.specs.declared.adapter.Then.TheVariants as then
 use Rattle.mix_dap.specs.declared.adapter.Way.{Way}
-use Rattle.dap_asked.specs.declared.deed.Deed.{Deed}
-use Rattle.dap_asked.specs.declared.fault.Fault.{Fault}
-use Rattle.dap_asked.specs.declared.kind.Act.{Act}
 use Rattle.dap_asked.specs.declared.kind.Act.TheVariants as act
-use Rattle.dap_asked.specs.declared.kind.Kind.{Kind}
 use Rattle.dap_asked.specs.declared.kind.Kind.TheVariants as kind
 use Rattle.mix_dap.specs.declared.launch.Opening.{Opening}
 use Rattle.mix_dap.specs.declared.launch.Opening.TheVariants as opening
@@ -134,18 +119,18 @@ reacts-refuses x r a b why how old mid new is fits same still_old flows tells =
     let alone = refusal-alone r why mid new tells in
     let body : Result Data Refusal = Err (record { why = why; text = alone.text; place = alone.place }) in
     subst (λ y. ReactsAs y r how b old new) (sym is) (record {
-  body = body;
-  fits = fits;
-  flow = flows;
-  mid = b;
-  between = new;
-  timeline = same.0;
-  points = same.1;
-  fault = same.2;
-  printed = same.3;
-  told = subst (λ o. AddsAnswer (answer_message r body) [] o new) still_old alone.adds;
-  goes = (refl, refl);
-})
+      body = body;
+      fits = fits;
+      flow = flows;
+      mid = b;
+      between = new;
+      timeline = same.0;
+      points = same.1;
+      fault = same.2;
+      printed = same.3;
+      told = subst (λ o. AddsAnswer (answer_message r body) [] o new) still_old alone.adds;
+      goes = (refl, refl);
+    })
 
 pub reacts-misread : (asked : Result Kind Fault) (why : Fault) (r : Request) (a : Adapter) (how : Flow) (old new : Outbox) → asked ≡ Err why → how ≡ flow.Refused why
     → Refuses r why old new → ReactsAs (reaction_to asked r a) r how a old new

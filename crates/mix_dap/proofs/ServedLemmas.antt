@@ -1,14 +1,9 @@
 -- How a launch is answered.
 use Rattle.std.proofs.Common.{◌≡◌, ℕ, List, [], refl, ap, ◌∙◌}
-use Rattle.dap_message.specs.Message.{waits}
+use Rattle.rpc_message.specs.Prelude.{waits, Outbox, Request}
 use Rattle.dap_asked.specs.Kind.{kind_before}
-use Rattle.dap_message.specs.declared.outbox.Outbox.{Outbox}
-use Rattle.dap_message.specs.declared.request.Request.{Request}
-use Rattle.mix_dap.specs.Answer.{LaunchTells}
-use Rattle.mix_dap.specs.Before.{AskedShows}
+use Rattle.mix_dap.specs.Prelude.{LaunchTells, AskedShows, Known, Texts}
 use Rattle.mix_dap.specs.Dialogue.{Opens}
-use Rattle.mix_dap.specs.Texts.{Known}
-use Rattle.mix_dap.specs.declared.launch.Texts.{Texts}
 use Rattle.mix_dap.specs.declared.waiting.Asked.TheVariants as asked
 use Rattle.mix_dap.proofs.AsksLemmas.{launch-waits}
 

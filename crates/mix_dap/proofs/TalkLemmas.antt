@@ -1,8 +1,8 @@
 -- A talk by some steps is a talk by others, where each of those is one of these as long as something holds, which goes on to hold.
 use Rattle.std.proofs.Common.{ℕ, Option, List, [], ◌∷◌, ap, sym, subst}
 use Rattle.serde_json.specs.Data.{Data}
-use Rattle.dap_stream.specs.Asked.{Frame}
-use Rattle.dap_stream.specs.Talk.{Exchange, Leads, Talks}
+use Rattle.rpc_stream.specs.Asked.{Frame}
+use Rattle.rpc_stream.specs.Talk.{Exchange, Leads, Talks}
 
 leads-as : {S T : Type 0} (one : S → Frame → List Data → S → Type 0) (other : T → Frame → List Data → T → Type 0) (f : S → T) (holds : S → Type 0)
     → ((s : S) (frame : Frame) (told : List Data) (t : S) → holds s → one s frame told t → holds t × other (f s) frame told (f t))

@@ -3,19 +3,13 @@ use Rattle.std.specs.Prelude.{◌≡◌, ◌⊎◌, ◌≤◌, ◌-◌, ◌^◌,
 use Rattle.std.specs.Io.KnownBytes.{Appends, prepend_known}
 use Rattle.serde_json.specs.Data.{Data}
 use Rattle.dap_asked.specs.Kind.{kind_before}
-use Rattle.dap_message.specs.declared.request.Request.{Request}
-use Rattle.dap_message.specs.Message.{next_seq}
-use Rattle.dap_stream.specs.Asked.{Frame, IsRequest}
-use Rattle.dap_frame.specs.Frame.{first_frame, partial}
-use Rattle.dap_stream.specs.Broken.{broken_text}
-use Rattle.dap_stream.specs.BrokenOff.{SendsFront}
-use Rattle.dap_stream.specs.Heard.{Hears}
-use Rattle.dap_stream.specs.Hearing.{HearsAs}
-use Rattle.dap_stream.specs.Serving.{unclear_told, going, over, Steps}
-use Rattle.dap_stream.specs.Talk.{Talks}
-use Rattle.dap_stream.specs.declared.broken.Broken.{Broken}
-use Rattle.dap_stream.specs.declared.broken.Broken.TheVariants as broken
-use Rattle.dap_stream.specs.declared.hear.Heard.TheVariants as heard
+use Rattle.rpc_message.specs.Prelude.{Request, next_seq}
+use Rattle.rpc_stream.specs.Asked.{Frame, IsRequest}
+use Rattle.rpc_frame.specs.Frame.{first_frame, partial}
+use Rattle.rpc_stream.specs.Prelude.{broken_text, SendsFront, Hears, HearsAs, Talks, Broken}
+use Rattle.rpc_stream.specs.Serving.{unclear_told, going, over, Steps}
+use Rattle.rpc_stream.specs.declared.broken.Broken.TheVariants as broken
+use Rattle.rpc_stream.specs.declared.hear.Heard.TheVariants as heard
 use Rattle.mix_dap.specs.Answer.{HasTexts, LaunchTells}
 use Rattle.mix_dap.specs.Before.{AskedShows, IsLaunch, client_after}
 use Rattle.mix_dap.specs.Capabilities.{unknown_client}

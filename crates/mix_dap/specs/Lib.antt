@@ -9,6 +9,7 @@ pub mod Launch
 pub mod Launched
 pub mod Leaves
 pub mod Output
+pub mod Prelude
 pub mod Reaction
 pub mod Reacts
 pub mod Replies

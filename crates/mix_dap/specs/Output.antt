@@ -1,8 +1,7 @@
 -- What the events `output` say of the rows that units write.
 use Rattle.std.specs.Prelude.{ℕ, ◌-◌, List, [], ◌∷◌, ◌++◌, codes, decimal, drop, length, map, nat_lt, if◌then◌else◌}
-use Rattle.dap_message.specs.Message.{output_body}
-use Rattle.mix_machine.specs.World.{WorldState, unit_at}
-use Rattle.mix_machine.specs.units.Row.{RowState}
+use Rattle.rpc_message.specs.Message.{output_body}
+use Rattle.mix_machine.specs.Prelude.{WorldState, unit_at, RowState}
 use Rattle.mix_dap.specs.Events.{Event}
 use Rattle.dap_views.specs.Variables.{row_text}
 use Rattle.mix_dap.specs.declared.printed.Printed.{Printed}

@@ -3,16 +3,12 @@ use Rattle.std.specs.Prelude.{◌≡◌, ◌⊎◌, ◌++◌, Option, Result, Ok
 use Rattle.serde_json.specs.Data.{Data}
 use Rattle.mix_refused.specs.declared.refused.Refused.{Refused}
 use Rattle.mix_refused.specs.declared.refused.Refused.TheVariants as refused
-use Rattle.mix_session.specs.Command.{effect_of, Begun}
-use Rattle.mix_session.specs.Session.{SessionState}
-use Rattle.mix_session.specs.Timeline.{Timeline, world_of}
-use Rattle.mix_session.specs.declared.reply.End.{End}
+use Rattle.mix_session.specs.Prelude.{effect_of, Begun, SessionState, Timeline, world_of, End}
 use Rattle.mix_session.specs.declared.request.Request.TheVariants as ask
-use Rattle.dap_message.specs.declared.outbox.Outbox.{Outbox}
-use Rattle.dap_message.specs.declared.request.Request.{Request}
+use Rattle.rpc_message.specs.Prelude.{Outbox, Request}
 use Rattle.mix_dap.specs.Console.{deed_asked}
 use Rattle.mix_dap.specs.Events.{AddsAnswer, AddsEvents}
-use Rattle.dap_asked.specs.Kind.{kind_asked}
+use Rattle.dap_asked.specs.Prelude.{kind_asked, Fault, Kind}
 use Rattle.mix_dap.specs.Leaves.{Leaves}
 use Rattle.mix_dap.specs.Ended.{end_told}
 use Rattle.mix_dap.specs.Output.{all_told, outputs}
@@ -27,8 +23,6 @@ use Rattle.mix_dap.specs.declared.adapter.Flow.TheVariants as flow
 use Rattle.mix_dap.specs.declared.adapter.Then.{Then}
 use Rattle.mix_dap.specs.declared.adapter.Then.TheVariants as then
 use Rattle.mix_dap.specs.declared.adapter.Way.{Way}
-use Rattle.dap_asked.specs.declared.fault.Fault.{Fault}
-use Rattle.dap_asked.specs.declared.kind.Kind.{Kind}
 use Rattle.dap_asked.specs.declared.kind.Kind.TheVariants as kind
 
 -- It is not refused, an adapter is left so, this comes then, and the response and the events are told.

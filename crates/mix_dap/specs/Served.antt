@@ -1,9 +1,9 @@
 -- How the client of a launched program is answered.
 use Rattle.std.specs.Prelude.{◌≡◌, ℕ, List}
 use Rattle.serde_json.specs.Data.{Data}
-use Rattle.dap_message.specs.declared.request.Request.{Request}
-use Rattle.dap_stream.specs.declared.serves.Turn.{Turn}
-use Rattle.dap_stream.specs.declared.serves.Turn.TheVariants as turn
+use Rattle.rpc_message.specs.declared.request.Request.{Request}
+use Rattle.rpc_stream.specs.declared.serves.Turn.{Turn}
+use Rattle.rpc_stream.specs.declared.serves.Turn.TheVariants as turn
 use Rattle.mix_dap.specs.Events.{Sends}
 use Rattle.mix_dap.specs.Reacts.{KeepsSaid, Reacts}
 use Rattle.mix_dap.specs.declared.adapter.Adapter.{Adapter}

@@ -1,9 +1,9 @@
 -- How a client is served where its dialogue is.
 use Rattle.std.specs.Prelude.{◌≡◌, ℕ, List, [], Bool, true, false}
 use Rattle.serde_json.specs.Data.{Data}
-use Rattle.dap_message.specs.declared.request.Request.{Request}
-use Rattle.dap_stream.specs.declared.serves.Turn.{Turn}
-use Rattle.dap_stream.specs.declared.serves.Turn.TheVariants as turn
+use Rattle.rpc_message.specs.declared.request.Request.{Request}
+use Rattle.rpc_stream.specs.declared.serves.Turn.{Turn}
+use Rattle.rpc_stream.specs.declared.serves.Turn.TheVariants as turn
 use Rattle.mix_dap.specs.Dialogue.{BeforeSteps, Reached, Stage, debugs, done, waiting}
 use Rattle.mix_dap.specs.Served.{AdapterServes}
 use Rattle.mix_dap.specs.declared.adapter.Adapter.{Adapter}

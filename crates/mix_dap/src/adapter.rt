@@ -1,12 +1,10 @@
 //! The adapter of a program that was launched.
 
 ghost use Rattle.std.specs.Prelude.{◌≡◌, IfOk, IfNone, IfSome, IsErr, OnErr, OnOk, Ok};
-ghost use Rattle.dap_asked.specs.Kind.{kind_asked};
+ghost use Rattle.dap_asked.specs.Prelude.{kind_asked, Refuses};
 ghost use Rattle.mix_dap.specs.Answer.{HasTexts, LaunchTells};
-ghost use Rattle.dap_asked.specs.Fault.{Refuses};
-ghost use Rattle.mix_dap.specs.Launched.{launched_of};
+ghost use Rattle.mix_dap.specs.Prelude.{launched_of, reaction};
 ghost use Rattle.mix_dap.specs.Output.{none_told};
-ghost use Rattle.mix_dap.specs.Reaction.{reaction};
 ghost use Rattle.mix_dap.specs.Reacts.{GoesOn, KeepsSaid, Leaving, Reacts, ReactsAs, ReactsPartly, RunsPartly, flow_after};
 
 mod act;
@@ -28,11 +26,11 @@ use crate::printed::Printed;
 use crate::report::tell_report;
 use crate::waiting::Waiting;
 use dap_asked::{Fault, Kind, kind_asked, nothing, refuse};
-use dap_message::{Outbox, Request};
 use dap_points::Points;
 use mix_machine::MixFault;
 use mix_refused::{Memory, Refused};
 use mix_session::Session;
+use rpc_message::{Outbox, Request};
 use std::alloc::Global;
 
 /// Whether the client has more to ask.

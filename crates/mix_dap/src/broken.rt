@@ -3,8 +3,8 @@
 ghost use Rattle.std.specs.Prelude.{◌≡◌, ◌<◌, ◌-◌, ◌^◌};
 ghost use Rattle.mix_dap.specs.Dialogue.{TellsBroken};
 
-use dap_stream::Broken;
 use mix_stream::{Out, write_all};
+use rpc_stream::Broken;
 use std::alloc::{AllocError, Global};
 
 /// Writes the line; where memory is refused for it, the one that says so.

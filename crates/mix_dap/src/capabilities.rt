@@ -3,8 +3,8 @@
 ghost use Rattle.std.specs.Prelude.{◌≡◌};
 ghost use Rattle.mix_dap.specs.Capabilities.{asked_flag, first_by, client_of, unknown_client};
 
-use dap_message::{Fields, Request};
 use mix_refused::Memory;
+use rpc_message::{Fields, Request};
 use serde_json::{Value, json};
 use std::alloc::Global;
 

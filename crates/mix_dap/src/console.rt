@@ -5,10 +5,10 @@ ghost use Rattle.mix_dap.specs.Console.{is_command, is_said, is_script, line_mea
 ghost use Rattle.dap_asked.specs.Deed.{is_console_of, is_line};
 
 use dap_asked::Act;
-use dap_message::Request;
 use mix_person::{Line, kind_of, only_said, person_line};
 use mix_refused::Memory;
 use mix_session::Session;
+use rpc_message::Request;
 use std::alloc::Global;
 
 // Whether a person's line stands for a command.

@@ -2,15 +2,15 @@
 
 ghost use Rattle.std.specs.Prelude.{◌≡◌, ◌<◌, ◌-◌, ◌^◌, Err};
 ghost use Rattle.mix_stream.specs.Stream.{CountsFailure};
-ghost use Rattle.dap_stream.specs.declared.broken.Broken.TheVariants as broken;
+ghost use Rattle.rpc_stream.specs.declared.broken.Broken.TheVariants as broken;
 ghost use Rattle.mix_dap.specs.Dialogue.{GoesOnAs, at_first};
 ghost use Rattle.mix_dap.specs.Stage.{is_over};
 
 use crate::launch::Library;
 use crate::served::{Holds, Served};
 use crate::waiting::Waiting;
-use dap_stream::{Broken, Ear, Talk};
 use mix_stream::{In, Out};
+use rpc_stream::{Broken, Ear, Talk};
 use std::alloc::Global;
 use std::marker::Model;
 use std::mem::replace;

@@ -5,8 +5,8 @@ ghost use Rattle.serde_json.specs.Data.{null};
 ghost use Rattle.mix_dap.specs.Events.{AddsEvents};
 
 use dap_asked::nothing;
-use dap_message::Outbox;
 use mix_refused::Memory;
+use rpc_message::Outbox;
 
 /// Tells an event of a name, and no more.
 pub(crate) fn tell_event(name: &str, out: &mut Outbox) -> Result<(), Memory>

@@ -7,11 +7,11 @@ ghost use Rattle.dap_asked.specs.declared.fault.Fault.TheVariants.{NotOpened};
 ghost use Rattle.mix_dap.specs.Texts.{Known, Gives, IsText, AreCards, AreTexts, opening_of, RefusesText, RefusesTexts};
 
 use dap_asked::Fault;
-use dap_message::Request;
 use mix_files::MAX_BUNDLE_BYTES;
 use mix_machine::MAX_DECK_BYTES;
 use mix_refused::Refused;
 use mix_stream::{Counted, read_up_to};
+use rpc_message::Request;
 use std::alloc::Global;
 use std::fs;
 use std::rt::Files;

@@ -17,9 +17,9 @@ mod waiting;
 
 pub use adapter::{Adapter, Flow};
 pub use dap_asked::Fault;
-pub use dap_frame::{Next, frame, next_frame};
-pub use dap_message::{Outbox, Request};
 pub use dialogue::Dialogue;
 pub use launch::{FileLibrary, Library, NoLibrary, Texts};
+pub use rpc_frame::{Next, frame, next_frame};
+pub use rpc_message::{Outbox, Request};
 pub use stream::{serve, serve_from};
 pub use waiting::{Asked, Waiting};

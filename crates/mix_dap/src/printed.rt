@@ -6,10 +6,10 @@ ghost use Rattle.mix_machine.specs.World.{unit_at};
 ghost use Rattle.mix_dap.specs.Events.{AddsEvents};
 ghost use Rattle.mix_dap.specs.Output.{all_told, none_told, output, outputs, row_line, row_output, taken_line, taken_output, unit_outputs};
 
-use dap_message::Outbox;
 use dap_views::{row_text, unit_at};
 use mix_machine::{Row, Unit, UnitNo, World};
 use mix_refused::Memory;
+use rpc_message::Outbox;
 use std::alloc::Global;
 
 /// How many rows of each of the units that write text were told.

@@ -3,14 +3,13 @@
 ghost use Rattle.std.specs.Prelude.{[], ◌∷◌, OnOk, codes};
 ghost use Rattle.std.specs.Str.Lossy.{utf8_lossy};
 ghost use Rattle.mix_dap.specs.Answer.{TellsReport, report_told};
-ghost use Rattle.mix_dap.specs.Events.{AddsEvents};
-ghost use Rattle.mix_dap.specs.Output.{output};
+ghost use Rattle.mix_dap.specs.Prelude.{AddsEvents, output};
 
 use crate::launch::Texts;
 use crate::loaded::source_of;
-use dap_message::Outbox;
 use mix_check::add_report;
 use mix_refused::Memory;
+use rpc_message::Outbox;
 use std::alloc::Global;
 
 /// Tells the faults and the warnings of the source, as `mixrev check` writes them.

@@ -2,18 +2,17 @@
 #![tactic(auto, using(crate::proofs::EventLemmas::sending))]
 
 ghost use Rattle.std.specs.Prelude.{◌≡◌, [], IfNone, IfOk, IfSome, IsErr, OnOk};
-ghost use Rattle.dap_message.specs.Message.{waits};
-ghost use Rattle.mix_dap.specs.Answer.{LaunchTells};
+ghost use Rattle.rpc_message.specs.Message.{waits};
+ghost use Rattle.mix_dap.specs.Prelude.{LaunchTells, launched_of};
 ghost use Rattle.mix_dap.specs.Dialogue.{BeginsAs, debugs, waiting};
-ghost use Rattle.mix_dap.specs.Launched.{launched_of};
 ghost use Rattle.mix_dap.specs.Stage.{StageServes, stage_of};
 
 use crate::adapter::{Adapter, Flow};
 use crate::launch::{Library, Texts};
 use crate::waiting::{Asked, Waiting};
-use dap_message::{Outbox, Request};
-use dap_stream::{Serves, Turn};
 use mix_refused::Memory;
+use rpc_message::{Outbox, Request};
+use rpc_stream::{Serves, Turn};
 use std::alloc::Global;
 use std::mem::replace;
 

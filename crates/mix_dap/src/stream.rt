@@ -2,15 +2,15 @@
 
 ghost use Rattle.std.specs.Prelude.{◌≡◌, ◌≢◌, ◌<◌, ◌≤◌, ◌-◌, ◌^◌, Ok, Err};
 ghost use Rattle.mix_stream.specs.Stream.{CountsFailure};
-ghost use Rattle.dap_stream.specs.declared.broken.Broken.{Broken};
-ghost use Rattle.dap_stream.specs.declared.broken.Broken.TheVariants as broken;
+ghost use Rattle.rpc_stream.specs.declared.broken.Broken.{Broken};
+ghost use Rattle.rpc_stream.specs.declared.broken.Broken.TheVariants as broken;
 ghost use Rattle.mix_dap.specs.Dialogue.{DialogueAs, TellsBroken};
 
 use crate::broken::tell;
 use crate::dialogue::Dialogue;
 use crate::launch::{FileLibrary, Library};
-use dap_stream::Broken;
 use mix_stream::{In, Out};
+use rpc_stream::Broken;
 use std::alloc::Global;
 use std::rt::Files;
 

@@ -10,9 +10,9 @@ use crate::capabilities::{Client, capabilities};
 use crate::event::tell_event;
 use crate::launch::{Library, Texts, texts_of};
 use dap_asked::{Fault, Given, Kind, kind_before, nothing, refuse};
-use dap_message::{Outbox, Request};
 use dap_views::given_view;
 use mix_refused::{Memory, Refused};
+use rpc_message::{Outbox, Request};
 use std::alloc::Global;
 
 /// An adapter without a launched program.

@@ -1,11 +1,9 @@
 -- How the links of a chain follow one after the other.
 use Rattle.std.proofs.Common.{◌≡◌, ℕ, zero, suc, ◌-◌, ◌<◌, List, length, Option, Some, None, Ok, Err, refl, sym, ap, ◌∙◌, arith}
 use Rattle.mix_formula.specs.declared.arithmetic.Operator.{Operator}
-use Rattle.mix_formula.specs.declared.arithmetic.Reckoned.{Reckoned}
+use Rattle.mix_formula.specs.Prelude.{Reckoned, NameValue, unblanked}
 use Rattle.mix_formula.specs.Arithmetic.{outcome}
 use Rattle.mix_formula.specs.Formula.{Reading, chain, link, links, product_by, sum_at, sum_operator, then_read}
-use Rattle.mix_formula.specs.Names.{NameValue}
-use Rattle.mix_formula.specs.Text.{unblanked}
 
 links-more : (op : List ℕ → Option (Operator × List ℕ)) (part : List ℕ → Reading) (n : ℕ) (v : Reckoned) (text : List ℕ) → 0 < n
     → links op part n v text ≡ link part (links op part (n - 1)) v text (op (unblanked text))

@@ -2,10 +2,7 @@
 use Rattle.std.proofs.Common.{◌≡◌, ℕ, zero, suc, ◌-◌, ◌<◌, Bool, true, false, List, [], ◌∷◌, ◌++◌, Option, Some, None, is_none, ◌&&◌, refl, sym, ap, ◌∙◌, arith}
 use Rattle.std.specs.Prelude.{ℤ}
 use Rattle.mix_formula.specs.Found.{first_found, first_without, from_word, is_without, name_if, names_from, steps, with_found}
-use Rattle.mix_formula.specs.Names.{NameValue, all_named, named, value_in}
-use Rattle.mix_formula.specs.declared.names.Named.{Named}
-use Rattle.mix_formula.specs.Rows.{RowValue}
-use Rattle.mix_formula.specs.Text.{after_word, is_name, word_in}
+use Rattle.mix_formula.specs.Prelude.{NameValue, all_named, named, value_in, Named, RowValue, after_word, is_name, word_in}
 
 names_from-some : (n : ℕ) (text : List ℕ) → 0 < n
     → names_from n text ≡ name_if (word_in (from_word text)) (names_from (n - 1) (after_word (from_word text)))

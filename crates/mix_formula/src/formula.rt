@@ -1,8 +1,7 @@
 //! Sums of products of numbers, names and sums in brackets.
 ghost use Rattle.std.specs.Prelude.{◌≡◌, Err, MatchOption, MatchResult, None, Ok, Some};
 ghost use Rattle.mix_formula.specs.Formula.{closed, name_value_of, number_value, part_by, plain_part, product_by, product_operator, signed_part, sum_at, sum_operator, word_at};
-ghost use Rattle.mix_formula.specs.Text.{after_word, word_in};
-ghost use Rattle.mix_formula.specs.Names.{names_of, value_in};
+ghost use Rattle.mix_formula.specs.Prelude.{after_word, word_in, names_of, value_in};
 ghost use Rattle.mix_lines.specs.Number.{number_up_to};
 
 use crate::arithmetic::{Operator, Reckoned, negated, outcome};

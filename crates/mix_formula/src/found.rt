@@ -1,8 +1,7 @@
 //! The values of names that are found from what is measured.
 ghost use Rattle.std.specs.Prelude.{◌≡◌, ℕ, ℤ, pos, IfOk, IfSome, MatchOption, None, Some};
-ghost use Rattle.mix_formula.specs.Arithmetic.{within};
+ghost use Rattle.mix_formula.specs.Prelude.{within, all_named, named, value_in};
 ghost use Rattle.mix_formula.specs.Found.{all_values, candidate, first_found, first_without, formula_at, found_by, from_word, is_count, is_without, names_in, part_of, solution, unless_valued};
-ghost use Rattle.mix_formula.specs.Names.{all_named, named, value_in};
 ghost use Rattle.mix_formula.specs.Rows.{all_rows, row_value};
 
 use crate::arithmetic::{Operator, Reckoned, outcome};

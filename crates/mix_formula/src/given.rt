@@ -1,8 +1,7 @@
 //! The value of a name as it is given: NAME=VALUE.
 ghost use Rattle.std.specs.Prelude.{◌≡◌, MatchOption, None, Some, if◌then◌else◌};
 ghost use Rattle.mix_formula.specs.Given.{given_of, known_as};
-ghost use Rattle.mix_formula.specs.Names.{named};
-ghost use Rattle.mix_formula.specs.Text.{is_name};
+ghost use Rattle.mix_formula.specs.Prelude.{named, is_name};
 
 use crate::names::Named;
 use crate::text::{is_name, split_word};

@@ -4,7 +4,7 @@ use Rattle.std.specs.Str.{is_utf8}
 use Rattle.std.proofs.lemmas.Str.{IsUtf8-from_is_utf8, is_utf8-from_IsUtf8}
 use Rattle.serde_json.specs.Data.{Data}
 use Rattle.serde_json.specs.Read.{read}
-use Rattle.dap_stream.specs.Asked.{message_in}
+use Rattle.rpc_stream.specs.Asked.{message_in}
 
 pub says : (body : List ℕ) (message : Data) → IsUtf8 body × (read body ≡ Some message) → Some message ≡ message_in body
 says body message is = rw (is_utf8-from_IsUtf8 body is.0) (sym is.1)

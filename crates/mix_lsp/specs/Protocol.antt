@@ -3,7 +3,7 @@ use Rattle.std.specs.Prelude.{ℕ, List, [], ◌∷◌, ◌++◌, codes, ◌||�
 use Rattle.std.specs.Str.{bytes_eq}
 use Rattle.serde_json.specs.Data.{Data, null}
 use Rattle.serde_json.specs.Find.{as_str, get}
-use Rattle.dap_stream.specs.Asked.{Body, message_in}
+use Rattle.rpc_stream.specs.Asked.{Body, message_in}
 use Rattle.mix_lsp.specs.declared.phase.Phase.{Phase}
 use Rattle.mix_lsp.specs.declared.phase.Phase.TheVariants as phase
 use Rattle.mix_lsp.specs.declared.phase.Step.{Step}

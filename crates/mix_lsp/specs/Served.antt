@@ -3,15 +3,9 @@
 use Rattle.std.specs.Prelude.{◌≡◌, ◌⊎◌, ◌≤◌, ◌-◌, ◌^◌, ℕ, List, [], ◌∷◌, ◌++◌, codes, length, Option, None, Some, option_to_list, Result, Ok, Err}
 use Rattle.std.specs.Io.KnownBytes.{Appends, prepend_known}
 use Rattle.serde_json.specs.Data.{Data}
-use Rattle.dap_stream.specs.Asked.{Body}
-use Rattle.dap_stream.specs.Broken.{broken_text}
-use Rattle.dap_stream.specs.BrokenOff.{SendsFront}
-use Rattle.dap_stream.specs.Heard.{HearsBodies}
-use Rattle.dap_stream.specs.Hearing.{HearsAs}
-use Rattle.dap_stream.specs.Sent.{SendsAll}
-use Rattle.dap_stream.specs.declared.broken.Broken.{Broken}
-use Rattle.dap_stream.specs.declared.broken.Broken.TheVariants as broken
-use Rattle.dap_stream.specs.declared.hear.Heard.TheVariants as heard
+use Rattle.rpc_stream.specs.Prelude.{Body, broken_text, SendsFront, HearsBodies, HearsAs, SendsAll, Broken}
+use Rattle.rpc_stream.specs.declared.broken.Broken.TheVariants as broken
+use Rattle.rpc_stream.specs.declared.hear.Heard.TheVariants as heard
 use Rattle.mix_lsp.specs.Protocol.{id_asked, id_in, ids_asked, ids_sent, message_of, phase_after, status_after}
 use Rattle.mix_lsp.specs.declared.phase.Phase.{Phase}
 use Rattle.mix_lsp.specs.declared.phase.Phase.TheVariants as phase

@@ -5,9 +5,9 @@ ghost use Rattle.mix_lsp.specs.Edit.{IsBoundary};
 
 use crate::params::{range_in, text_member};
 use crate::place::{Encoding, Place, byte_at};
-use dap_message::member_of;
 use mix_refused::Memory;
 use mixal_text::Span;
+use rpc_message::member_of;
 use serde_json::Value;
 use std::alloc::Global;
 

@@ -2,8 +2,8 @@
 
 use crate::params::param;
 use crate::place::Encoding;
-use dap_message::member_of;
 use mix_refused::Memory;
+use rpc_message::member_of;
 use serde_json::{Value, json};
 use std::alloc::Global;
 

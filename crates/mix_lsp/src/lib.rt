@@ -24,7 +24,7 @@ mod server;
 mod stream;
 mod tokens;
 
-pub use place::Encoding;
 pub use phase::Phase;
+pub use place::Encoding;
 pub use server::{Answer, Server};
 pub use stream::serve;

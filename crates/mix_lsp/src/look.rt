@@ -3,8 +3,8 @@
 use crate::finder::Finder;
 use crate::params::{param, place_in, range_in};
 use crate::place::{Encoding, Spot, spot_of};
-use dap_message::member_of;
 use mix_refused::Memory;
+use rpc_message::member_of;
 use serde_json::{Value, json};
 use std::alloc::Global;
 

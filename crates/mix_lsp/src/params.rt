@@ -5,8 +5,8 @@ ghost use Rattle.serde_json.specs.View.{view};
 ghost use Rattle.mix_lsp.specs.Protocol.{message_of};
 
 use crate::place::Place;
-use dap_message::{integer, member_of, natural};
 use mix_refused::Memory;
+use rpc_message::{integer, member_of, natural};
 use serde_json::Value;
 use std::alloc::Global;
 

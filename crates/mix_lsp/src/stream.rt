@@ -2,18 +2,14 @@
 
 ghost use Rattle.std.specs.Prelude.{◌≡◌, ◌≢◌, ◌≤◌, ◌<◌, ◌-◌, ◌^◌, Ok, Err, IfErr, IfOk, IfSome, OnErr, OnOk, option_map, option_to_list};
 ghost use Rattle.serde_json.specs.View.{view};
-ghost use Rattle.dap_stream.specs.Broken.{IsMemoryOrWrite};
-ghost use Rattle.dap_stream.specs.BrokenOff.{SendsFront};
-ghost use Rattle.dap_stream.specs.Sent.{SendsAll};
-ghost use Rattle.dap_stream.specs.declared.broken.Broken.{Broken};
-ghost use Rattle.dap_stream.specs.declared.broken.Broken.TheVariants as broken;
+ghost use Rattle.rpc_stream.specs.Prelude.{IsMemoryOrWrite, SendsFront, SendsAll, Broken, unheard};
+ghost use Rattle.rpc_stream.specs.declared.broken.Broken.TheVariants as broken;
 ghost use Rattle.mix_stream.specs.Stream.{CountsFailure};
-ghost use Rattle.dap_stream.specs.Hearing.{unheard};
 ghost use Rattle.mix_lsp.specs.Served.{AnswersAs, Served, ServedAs, TellsBroken, TurnAs};
 
 use crate::server::Server;
-use dap_stream::{Broken, Ear, Heard, send_one};
 use mix_stream::{In, Out, write_all};
+use rpc_stream::{Broken, Ear, Heard, send_one};
 use serde_json::Value;
 use std::alloc::{AllocError, Global};
 
@@ -126,7 +122,7 @@ fn slice_of(body: &Option<Vec<u8>>) -> Option<&[u8]>
 }
 
 // A message, if there is one, is sent as its text, in a frame.
-#[tactic(auto, using(dap_stream::proofs::SendLemmas::nothing))]
+#[tactic(auto, using(rpc_stream::proofs::SendLemmas::nothing))]
 fn send<W: Out>(alloc: Global, message: &Option<Value>, out: &mut W) -> Result<(), Broken>
     requires { W.failed out.old < 2 ^ 64 - 1 }
     ensures sent { OnOk result (SendsAll (option_to_list (option_map view message.now)) (W.told out.old) (W.told out.new)) }

@@ -3,39 +3,15 @@ use Rattle.std.specs.Prelude.{ℕ, zero, suc, ◌+◌, ◌-◌, max, Bool, true,
 use Rattle.std.proofs.Common.{ap, sym, subst, ◌∙◌, arith}
 use Rattle.std.proofs.lemmas.Bool.Decides.{nat_tests}
 use Rattle.std.proofs.lemmas.List.{get_or-set_same, get_or-set_other, length-set}
-use Rattle.mix_word.specs.Word.{WordValue}
-use Rattle.mix_word.specs.declared.register.Reg.{Reg}
-use Rattle.mix_machine.specs.Registers.{fits_register}
-use Rattle.mix_machine.specs.World.{WorldState, IsWorld, cell_of, unit_at}
-use Rattle.mix_machine.specs.UnitAction.{transfer_end}
-use Rattle.mix_machine.specs.units.UnitKind.{block_length, has_place, has_medium}
-use Rattle.mix_machine.specs.units.Row.{row_of}
-use Rattle.mix_machine.specs.units.Unit.{UnitState, empty_unit, with_word, with_blocks, with_row}
-use Rattle.mix_machine.specs.units.Units.{UnitsState, unit_of, with_unit, cut_to}
-use Rattle.mix_machine.specs.units.Keep.{length-units}
-use Rattle.mix_machine.specs.Write.{set_value, Write, set, grow, print, written, write_all, copies, each, busy, place_after, from_block, from_cell, input_writes, words_out, replace_writes, append_writes, row_writes, output_writes, control_writes, writes_in, writes_of}
-use Rattle.mix_machine.specs.Decode.{decode_at, arguments_at}
-use Rattle.mix_machine.specs.Effects.{effects}
-use Rattle.mix_machine.specs.Order.{applies, order, first_fault, operation_or_nop}
-use Rattle.mix_machine.specs.Do.{does, plan_of, state_after, step_plan}
-use Rattle.mix_machine.specs.Part.{mark_of, is_same_mark, is_altered, IsPart}
+use Rattle.mix_word.specs.Prelude.{WordValue, Reg}
+use Rattle.mix_machine.specs.Prelude.{fits_register, WorldState, IsWorld, cell_of, unit_at, transfer_end, block_length, has_place, has_medium, row_of, UnitState, empty_unit, with_word, with_blocks, with_row, UnitsState, unit_of, with_unit, cut_to, length-units, set_value, Write, set, grow, print, written, write_all, copies, each, busy, place_after, from_block, from_cell, input_writes, words_out, replace_writes, append_writes, row_writes, output_writes, control_writes, writes_in, writes_of, decode_at, arguments_at, effects, applies, order, first_fault, operation_or_nop, does, plan_of, state_after, step_plan, mark_of, is_same_mark, is_altered, IsPart, UnitKind, Tape, Disk, CardReader, CardPunch, Printer, Typewriter, PaperTape, Transfer, Plan, Writes, MixFault, IndexOverflow, Change, Old, Part}
 use Rattle.mix_machine.proofs.WriteLemmas.{write_all-append}
 use Rattle.mix_machine.proofs.MarkLemmas.{until-kept, until-cut}
 use Rattle.mix_machine.proofs.SameUnit.{Seen, seen-same, seen-later}
-use Rattle.mix_machine.specs.declared.units.kind.UnitKind.{UnitKind}
-use Rattle.mix_machine.specs.declared.units.kind.UnitKind.TheVariants.{Tape, Disk, CardReader, CardPunch, Printer, Typewriter, PaperTape}
-use Rattle.mix_machine.specs.declared.plan.Transfer.{Transfer}
-use Rattle.mix_machine.specs.declared.plan.Plan.{Plan}
 use Rattle.mix_machine.specs.declared.plan.Plan.TheVariants as plan
-use Rattle.mix_machine.specs.declared.plan.Writes.{Writes}
 use Rattle.mix_machine.specs.declared.plan.Writes.TheVariants.{Nothing, Register, RegisterAndToggle, Pair, PairAndToggle, Cell as CellOf, Indicator, Copy, Input, Output, Control}
-use Rattle.mix_machine.specs.declared.fault.MixFault.{MixFault}
-use Rattle.mix_machine.specs.declared.fault.MixFault.TheVariants.{IndexOverflow}
-use Rattle.mix_machine.specs.declared.old.Change.{Change}
 use Rattle.mix_machine.specs.declared.old.Change.TheVariants.{Step, SetReg, SetCell, SetLoc, SetOver, SetCmp, Break as SetBreak, Clear}
-use Rattle.mix_machine.specs.declared.old.Old.{Old}
 use Rattle.mix_machine.specs.declared.old.Old.TheVariants.{Loc, Clock, Reg as OldRegister, Cell, Over, Cmp as OldCmp, Break, At, Len, Item, Until}
-use Rattle.mix_machine.specs.declared.part.Part.{Part}
 use Rattle.mix_machine.specs.declared.part.Part.TheVariants as part
 
 -- a value that is none of a unit

@@ -1,24 +1,10 @@
 -- A step keeps the breakpoints.
 use Rattle.std.specs.Prelude.{ℕ, zero, suc, ◌+◌, Bool, true, false, not, cond, nat_lt, List, [], ◌∷◌, ◌++◌, ◌≡◌, length, Result, Ok, Err, IsTrue, refl}
 use Rattle.std.proofs.Common.{subst, ◌∙◌}
-use Rattle.mix_machine.specs.World.{WorldState, cell_of, unit_at}
-use Rattle.mix_machine.specs.units.UnitKind.{block_length, has_place, has_medium}
-use Rattle.mix_machine.specs.Write.{set_value, Write, set, grow, print, written, write_all, copies, each, busy, place_after, from_block, from_cell, replace_writes, append_writes, row_writes, control_writes, writes_in, writes_of}
-use Rattle.mix_machine.specs.Decode.{decode_at, arguments_at}
-use Rattle.mix_machine.specs.Effects.{effects}
-use Rattle.mix_machine.specs.Order.{applies, order, first_fault, operation_or_nop}
-use Rattle.mix_machine.specs.Do.{does, plan_of, state_after, step_plan}
+use Rattle.mix_machine.specs.Prelude.{WorldState, cell_of, unit_at, block_length, has_place, has_medium, set_value, Write, set, grow, print, written, write_all, copies, each, busy, place_after, from_block, from_cell, replace_writes, append_writes, row_writes, control_writes, writes_in, writes_of, decode_at, arguments_at, effects, applies, order, first_fault, operation_or_nop, does, plan_of, state_after, step_plan, UnitKind, Tape, Disk, CardReader, CardPunch, Printer, Typewriter, PaperTape, Transfer, Plan, Writes, MixFault, Step, Old}
 use Rattle.mix_machine.proofs.AlteredLemmas.{Every, every-append, every-each}
-use Rattle.mix_machine.specs.declared.units.kind.UnitKind.{UnitKind}
-use Rattle.mix_machine.specs.declared.units.kind.UnitKind.TheVariants.{Tape, Disk, CardReader, CardPunch, Printer, Typewriter, PaperTape}
-use Rattle.mix_machine.specs.declared.plan.Transfer.{Transfer}
-use Rattle.mix_machine.specs.declared.plan.Plan.{Plan}
 use Rattle.mix_machine.specs.declared.plan.Plan.TheVariants as plan
-use Rattle.mix_machine.specs.declared.plan.Writes.{Writes}
 use Rattle.mix_machine.specs.declared.plan.Writes.TheVariants.{Nothing, Register, RegisterAndToggle, Pair, PairAndToggle, Cell as CellOf, Indicator, Copy, Input, Output, Control}
-use Rattle.mix_machine.specs.declared.fault.MixFault.{MixFault}
-use Rattle.mix_machine.specs.declared.old.Change.TheVariants.{Step}
-use Rattle.mix_machine.specs.declared.old.Old.{Old}
 use Rattle.mix_machine.specs.declared.old.Old.TheVariants.{Loc, Clock, Cell, Break, At}
 
 -- a write of something else than a breakpoint

@@ -1,31 +1,16 @@
 -- The clock goes no way but forward, none but a step moves it, a step is done at a cell, and the state after a change is one of the machine.
 use Rattle.std.proofs.Common.{ℕ, ◌≡◌, ◌≢◌, ◌≤◌, ◌<◌, Bool, true, false, cond, List, [], ◌∷◌, Option, Some, None, Result, Ok, Err, refl, ap, sym, subst, arith}
-use Rattle.mix_word.specs.Word.{WordValue}
-use Rattle.mix_word.specs.declared.operation.Operation.{Operation}
-use Rattle.mix_word.specs.declared.register.Reg.{Reg}
-use Rattle.mix_word.specs.declared.uses.UnitUse.{UnitUse}
-use Rattle.mix_word.specs.declared.uses.UnitUse.TheVariants.{Looks, Controls, Reads, Writes}
-use Rattle.mix_machine.specs.Registers.{fits_register}
-use Rattle.mix_machine.specs.World.{WorldState, IsWorld}
-use Rattle.mix_machine.specs.UnitAction.{use_of, start_of}
-use Rattle.mix_machine.specs.Decode.{decode_at, arguments_at}
-use Rattle.mix_machine.specs.Effects.{effects}
+use Rattle.mix_word.specs.Prelude.{WordValue, Operation, Reg, UnitUse, Looks, Controls, Reads, Writes}
+use Rattle.mix_machine.specs.Prelude.{fits_register, WorldState, IsWorld, use_of, start_of, decode_at, arguments_at, effects, set, Write, written, write_all, writes_in, writes_of, Arguments, Plan, MixFault, IndexOverflow, Change, Step, SetReg, SetCell, SetLoc, SetOver, SetCmp, Break, Clear}
 use Rattle.mix_machine.specs.Order.{applies, order, first_fault, operation_or_nop, clock_after}
 use Rattle.mix_machine.specs.Do.{does, plan_of, state_after, next_location, step_plan, IsReal}
-use Rattle.mix_machine.specs.Write.{set, Write, written, write_all, writes_in, writes_of}
 use Rattle.mix_machine.specs.law.Fits.{AllFit, world-written}
 use Rattle.mix_machine.specs.law.Plans.{fit-writes_of}
 use Rattle.mix_machine.specs.law.Undone.{plan-fits}
 use Rattle.mix_machine.proofs.Halting.{planned, at-cell}
 use Rattle.mix_machine.proofs.WriteLemmas.{write_all-append}
-use Rattle.mix_machine.specs.declared.decode.Arguments.{Arguments}
-use Rattle.mix_machine.specs.declared.plan.Plan.{Plan}
 use Rattle.mix_machine.specs.declared.plan.Plan.TheVariants as plan
 use Rattle.mix_machine.specs.declared.plan.Writes.{Writes as PlanWrites}
-use Rattle.mix_machine.specs.declared.fault.MixFault.{MixFault}
-use Rattle.mix_machine.specs.declared.fault.MixFault.TheVariants.{IndexOverflow}
-use Rattle.mix_machine.specs.declared.old.Change.{Change}
-use Rattle.mix_machine.specs.declared.old.Change.TheVariants.{Step, SetReg, SetCell, SetLoc, SetOver, SetCmp, Break, Clear}
 use Rattle.mix_machine.specs.declared.old.Old.TheVariants as old
 
 start-forward : (u : Option UnitUse) (w : WorldState) (n : ℕ) → w.clock ≤ start_of u w n

@@ -5,12 +5,8 @@ use Rattle.std.proofs.Math.Seq.{paste, paste-zero, paste-suc, drop-paste, length
 use Rattle.std.proofs.lemmas.List.{length-set, length-take-le, length-drop, drop-set-lt, drop_more, get_or_append_left, get_or-take, get_or-drop}
 use Rattle.undo_core.specs.Pack.{KeptList}
 use Rattle.mix_word.specs.Word.{WordValue, zero_word}
-use Rattle.mix_machine.specs.World.{WorldState, IsWorld, cell_of}
+use Rattle.mix_machine.specs.Prelude.{WorldState, IsWorld, cell_of, cell_values, with_copies, HasRoom, Wrote, Old, Cell}
 use Rattle.mix_machine.specs.Write.{set, written, write_all, kept_by, copies}
-use Rattle.mix_machine.specs.Cells.{cell_values, with_copies}
-use Rattle.mix_machine.specs.law.Wrote.{HasRoom, Wrote}
-use Rattle.mix_machine.specs.declared.old.Old.{Old}
-use Rattle.mix_machine.specs.declared.old.Old.TheVariants.{Cell}
 use Rattle.mix_machine.proofs.WriteLemmas.{length-copies}
 
 -- one word copied after the others

@@ -3,43 +3,15 @@ use Rattle.std.proofs.Common.{ℕ, suc, ◌+◌, ◌-◌, ◌*◌, ◌<◌, ◌�
 use Rattle.std.specs.Option.{option_map_or}
 use Rattle.std.specs.Result.{result_ok, is_ok}
 use Rattle.undo_core.specs.Replay.{count_kept}
-use Rattle.mix_word.specs.Word.{WordValue, plus}
-use Rattle.mix_word.specs.Arithmetic.{sum_of}
-use Rattle.mix_word.specs.declared.register.DataReg.{DataReg}
-use Rattle.mix_word.specs.declared.register.DataReg.TheVariants.{A, I1, I2, I3, I4, I5, I6, X}
-use Rattle.mix_word.specs.declared.operation.ShiftKind.{ShiftKind}
-use Rattle.mix_word.specs.declared.operation.ShiftKind.TheVariants.{Sla, Sra, Slax, Srax, Slc, Src}
-use Rattle.mix_word.specs.declared.operation.JumpKind.{JumpKind}
+use Rattle.mix_word.specs.Prelude.{WordValue, plus, sum_of, DataReg, A, I1, I2, I3, I4, I5, I6, X, ShiftKind, Sla, Sra, Slax, Srax, Slc, Src, JumpKind, Decoded, Operation, Div, Shift, Move, Ioc, In, Out, Jump, Increase, Decrease}
 use Rattle.mix_word.specs.declared.operation.JumpKind.TheVariants.{Jmp, Jsj, Jov, Jnov, Less, Equal, Greater, GreaterEqual, NotEqual, LessEqual}
-use Rattle.mix_word.specs.declared.decoding.Decoded.{Decoded}
-use Rattle.mix_word.specs.declared.operation.Operation.{Operation}
-use Rattle.mix_word.specs.declared.operation.Operation.TheVariants.{Div, Shift, Move, Ioc, In, Out, Jump, Increase, Decrease}
-use Rattle.mix_machine.specs.Registers.{fits_register}
-use Rattle.mix_machine.specs.World.{WorldState, unit_at}
+use Rattle.mix_machine.specs.Prelude.{fits_register, WorldState, unit_at, block_length, has_place, has_medium, UnitKind, Tape, Disk, CardReader, CardPunch, Printer, Typewriter, PaperTape, Transfer, Old, Write, set, grow, words_out, writes_in, writes_of, copies, each, busy, from_block, from_cell, replace_writes, append_writes, row_writes, control_writes, decode_at, arguments_at, jump_writes, applies, operation_or_nop, passed, Arguments, Plan, Writes, Nothing, Copy, MixFault, IndexOverflow, Change, Step, SetReg, SetCell, SetLoc, SetOver, SetCmp, Break, Clear}
 use Rattle.mix_machine.specs.UnitAction.{wound}
-use Rattle.mix_machine.specs.units.UnitKind.{block_length, has_place, has_medium}
-use Rattle.mix_machine.specs.declared.units.kind.UnitKind.{UnitKind}
-use Rattle.mix_machine.specs.declared.units.kind.UnitKind.TheVariants.{Tape, Disk, CardReader, CardPunch, Printer, Typewriter, PaperTape}
-use Rattle.mix_machine.specs.declared.plan.Transfer.{Transfer}
-use Rattle.mix_machine.specs.declared.old.Old.{Old}
-use Rattle.mix_machine.specs.Write.{Write, set, grow, words_out, writes_in, writes_of, copies, each, busy, from_block, from_cell, replace_writes, append_writes, row_writes, control_writes}
-use Rattle.mix_machine.specs.Decode.{decode_at, arguments_at}
 use Rattle.mix_machine.specs.Effects.{effects, sum_into, shift_into, quotient_into, copy_of, transfer_of}
-use Rattle.mix_machine.specs.Jump.{jump_writes}
-use Rattle.mix_machine.specs.Order.{applies, operation_or_nop}
 use Rattle.mix_machine.specs.Do.{does, kept_values, plan_of, values_kept, step_plan, step_or_fault}
 use Rattle.mix_machine.specs.KeptCount.{beside, beside_sum, beside_shift, beside_jump, beside_block, beside_in, beside_out, beside_control, count_of, kept_count, most_kept}
-use Rattle.mix_machine.specs.law.Passed.{passed}
-use Rattle.mix_machine.specs.declared.decode.Arguments.{Arguments}
-use Rattle.mix_machine.specs.declared.plan.Plan.{Plan}
 use Rattle.mix_machine.specs.declared.plan.Plan.TheVariants as plan
-use Rattle.mix_machine.specs.declared.plan.Writes.{Writes}
-use Rattle.mix_machine.specs.declared.plan.Writes.TheVariants.{Nothing, Copy}
 use Rattle.mix_machine.specs.declared.old.Old.TheVariants as old
-use Rattle.mix_machine.specs.declared.fault.MixFault.{MixFault}
-use Rattle.mix_machine.specs.declared.fault.MixFault.TheVariants.{IndexOverflow}
-use Rattle.mix_machine.specs.declared.old.Change.{Change}
-use Rattle.mix_machine.specs.declared.old.Change.TheVariants.{Step, SetReg, SetCell, SetLoc, SetOver, SetCmp, Break, Clear}
 use Rattle.mix_machine.proofs.EachLemmas.{length-each}
 use Rattle.mix_machine.proofs.WriteLemmas.{length-copies, length-kept_by}
 

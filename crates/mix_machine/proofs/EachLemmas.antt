@@ -1,10 +1,7 @@
 -- One of many values written after the others.
 use Rattle.std.proofs.Common.{ℕ, zero, suc, ◌+◌, ◌<◌, ◌≤◌, ◌≡◌, ◌++◌, [], ◌∷◌, length, ap, subst, refl, arith}
 use Rattle.undo_core.specs.Pack.{KeptList}
-use Rattle.mix_machine.specs.World.{WorldState}
-use Rattle.mix_machine.specs.Write.{Write, set, each}
-use Rattle.mix_machine.specs.law.Wrote.{HasRoom, Wrote}
-use Rattle.mix_machine.specs.declared.old.Old.{Old}
+use Rattle.mix_machine.specs.Prelude.{WorldState, Write, set, each, HasRoom, Wrote, Old}
 use Rattle.mix_machine.proofs.WriteLemmas.{joined}
 
 each-last : (n k m i : ℕ) (f : ℕ → Old) → m ≡ n + 1 → i ≡ k + n → each m k f ≡ each n k f ++ set (f i) ∷ []

@@ -8,24 +8,13 @@ use Rattle.std.proofs.lemmas.Bool.Decides.{nat_tests}
 use Rattle.std.proofs.lemmas.List.{get_or-set_other}
 use Rattle.std.proofs.lemmas.Grind.{get_or-set_at}
 use Rattle.undo_core.specs.Replay.{put_back}
-use Rattle.mix_word.specs.Word.{WordValue, zero_word}
-use Rattle.mix_word.specs.declared.register.Reg.{Reg}
+use Rattle.mix_word.specs.Prelude.{WordValue, zero_word, Reg}
 use Rattle.mix_word.specs.declared.register.Reg.TheVariants.{A, X, I1, I2, I3, I4, I5, I6, J}
 use Rattle.mix_machine.specs.Registers.{RegistersState, held_in, with_register}
-use Rattle.mix_machine.specs.World.{WorldState, IsWorld}
-use Rattle.mix_machine.specs.units.UnitKind.{has_medium, has_output}
-use Rattle.mix_machine.specs.units.Unit.{UnitState, empty_unit, with_word}
-use Rattle.mix_machine.specs.units.Units.{UnitsState, unit_of, with_unit, cut_to}
-use Rattle.mix_machine.specs.Write.{set_value, fits, put_value}
+use Rattle.mix_machine.specs.Prelude.{WorldState, IsWorld, has_medium, has_output, UnitState, empty_unit, with_word, UnitsState, unit_of, with_unit, cut_to, set_value, fits, put_value, world-set_value, length-units, Tape, Old, Part, Mark}
 use Rattle.mix_machine.specs.Part.{is_same_register, mark_of, mark_given, mark_before, IsPart}
-use Rattle.mix_machine.specs.law.Fits.{world-set_value}
-use Rattle.mix_machine.specs.units.Keep.{length-units}
-use Rattle.mix_machine.specs.declared.units.kind.UnitKind.TheVariants.{Tape}
-use Rattle.mix_machine.specs.declared.old.Old.{Old}
 use Rattle.mix_machine.specs.declared.old.Old.TheVariants as old
-use Rattle.mix_machine.specs.declared.part.Part.{Part}
 use Rattle.mix_machine.specs.declared.part.Part.TheVariants.{Register, Over, Cmp as Indicated, Cell, Unit as Device, Loc, Clock}
-use Rattle.mix_machine.specs.declared.part.Mark.{Mark}
 use Rattle.mix_machine.specs.declared.part.Mark.TheVariants as mark
 
 -- what a register holds after one was set

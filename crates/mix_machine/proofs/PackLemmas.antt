@@ -5,20 +5,12 @@ use Rattle.std.specs.Option.{option_map}
 use Rattle.std.proofs.lemmas.Bool.Decides.{nat_tests}
 use Rattle.std.proofs.lemmas.List.{reverse-append, reverse-reverse, append-nil, take-append-le}
 use Rattle.std.proofs.lemmas.Nat.{mod-mul-add, div-mul-add}
-use Rattle.mix_word.specs.Word.{WordValue}
-use Rattle.mix_word.specs.Register.{all_registers}
-use Rattle.mix_word.specs.declared.register.Reg.{Reg}
-use Rattle.undo_core.specs.Pack.{unit_list}
-use Rattle.undo_core.specs.Replay.{put_back}
+use Rattle.mix_word.specs.Prelude.{WordValue, all_registers, Reg}
+use Rattle.undo_core.specs.Prelude.{unit_list, put_back}
 use Rattle.undo_core.specs.declared.pack.Last.{Last}
-use Rattle.mix_machine.specs.World.{WorldState}
-use Rattle.mix_machine.specs.Write.{put_value, set_value, fits}
-use Rattle.mix_machine.specs.declared.old.Old.{Old}
+use Rattle.mix_machine.specs.Prelude.{WorldState, put_value, set_value, fits, Old, Anchor, Kind, LastValue, header_of, last_of, short_word, long_word, value_by, last_value, said, seen}
 use Rattle.mix_machine.specs.declared.old.Old.TheVariants as old
-use Rattle.mix_machine.specs.declared.pack.anchor.Anchor.{Anchor}
-use Rattle.mix_machine.specs.declared.pack.kind.Kind.{Kind}
 use Rattle.mix_machine.specs.declared.pack.kind.Kind.TheVariants as kind
-use Rattle.mix_machine.specs.Pack.{LastValue, header_of, last_of, short_word, long_word, value_by, last_value, said, seen}
 use Rattle.mix_machine.proofs.SizeLemmas.{size-of, values-step, none-values, last-header}
 
 -- units whose last value is this one

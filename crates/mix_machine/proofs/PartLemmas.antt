@@ -2,18 +2,11 @@
 use Rattle.std.proofs.Common.{Bool, ℕ, zero, suc, true, false, cond, nat_eq, ◌≡◌, ◌+◌, ◌-◌, ◌/◌, ◌%◌, ◌<◌, ◌≤◌, ◌∙◌, List, [], ◌∷◌, ◌++◌, length, drop, reverse, nat_lt, slice_get, Option, None, Some, if◌then◌else◌, refl, sym, ap, subst, arith}
 use Rattle.std.specs.Option.{option_map, option_map_or, option_and_then}
 use Rattle.std.proofs.lemmas.List.{reverse-append, length-reverse}
-use Rattle.mix_word.specs.Word.{WordValue}
-use Rattle.mix_word.specs.Register.{all_registers}
-use Rattle.mix_word.specs.Uses.{unit_count}
-use Rattle.mix_word.specs.declared.register.Reg.{Reg}
+use Rattle.mix_word.specs.Prelude.{WordValue, all_registers, unit_count, Reg}
 use Rattle.undo_core.specs.Pack.{unit_list}
 use Rattle.undo_core.specs.Counts.{run_of, newest_part, is_ended, AreOpen}
-use Rattle.mix_machine.specs.Cells.{cell_values}
-use Rattle.mix_machine.specs.Write.{is_clock}
-use Rattle.mix_machine.specs.declared.old.Old.{Old}
+use Rattle.mix_machine.specs.Prelude.{cell_values, is_clock, Old, Anchor, Kind}
 use Rattle.mix_machine.specs.declared.old.Old.TheVariants as old
-use Rattle.mix_machine.specs.declared.pack.anchor.Anchor.{Anchor}
-use Rattle.mix_machine.specs.declared.pack.kind.Kind.{Kind}
 use Rattle.mix_machine.specs.declared.pack.kind.Kind.TheVariants as kind
 use Rattle.mix_machine.specs.Pack.{LastValue, said, kind_of, clock_by, says_clock, value_if, in_one, in_two, in_three, last_cell, comparison_of, register_value, breakpoint_value, unit_value, short_word, long_word, time_of, shorter_row, whole_value, jump_value, short_value, store_value, value_by}
 use Rattle.mix_machine.proofs.PackLemmas.{header-value}

@@ -4,9 +4,7 @@ use Rattle.std.specs.Bool.{then_some}
 use Rattle.std.specs.Option.{option_and_then}
 use Rattle.std.proofs.lemmas.Bool.Decides.{nat_tests}
 use Rattle.undo_core.specs.Replay.{put_back}
-use Rattle.mix_machine.specs.World.{WorldState, last_clock}
-use Rattle.mix_machine.specs.Write.{put_value, set_value, fits}
-use Rattle.mix_machine.specs.declared.old.Old.{Old}
+use Rattle.mix_machine.specs.Prelude.{WorldState, last_clock, put_value, set_value, fits, Old}
 use Rattle.mix_machine.specs.declared.old.Old.TheVariants as old
 
 put-bool : (b : Bool) (w : WorldState) → IsSome (then_some b w) → IsTrue b × (then_some b w ≡ Some w)

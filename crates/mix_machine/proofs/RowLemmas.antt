@@ -3,18 +3,11 @@ use Rattle.std.proofs.Common.{ℕ, zero, suc, true, nat_lt, ◌≡◌, ◌+◌, 
 use Rattle.std.specs.Option.{option_and_then}
 use Rattle.std.proofs.lemmas.Bool.Decides.{nat_tests}
 use Rattle.std.proofs.lemmas.List.{drop-append-le, length-take-le, length-drop, length-map, reverse-append, take-append-drop, take_all, take_more, take_at, drop_at, map_push}
-use Rattle.undo_core.specs.Counts.{newest_part}
-use Rattle.undo_core.specs.Replay.{put_back}
+use Rattle.undo_core.specs.Prelude.{newest_part, put_back}
 use Rattle.mix_word.specs.Word.{WordValue}
-use Rattle.mix_machine.specs.World.{WorldState}
-use Rattle.mix_machine.specs.Write.{put_value, set_value, is_clock}
-use Rattle.mix_machine.specs.Cells.{cell_values, words_of, with_words, IsRow}
-use Rattle.mix_machine.specs.law.Restored.{Restored}
-use Rattle.mix_machine.specs.declared.old.Old.{Old}
+use Rattle.mix_machine.specs.Prelude.{WorldState, put_value, set_value, is_clock, cell_values, words_of, with_words, IsRow, Restored, Old, Anchor, header_of, last_of, last_value, long_word, said, value_by}
 use Rattle.mix_machine.specs.declared.old.Old.TheVariants as old
-use Rattle.mix_machine.specs.declared.pack.anchor.Anchor.{Anchor}
 use Rattle.mix_machine.specs.declared.pack.kind.Kind.TheVariants as kind
-use Rattle.mix_machine.specs.Pack.{header_of, last_of, last_value, long_word, said, value_by}
 use Rattle.mix_machine.proofs.CopyLemmas.{length-cell_values}
 use Rattle.mix_machine.proofs.PackLemmas.{said-last, row-header, put-alone}
 use Rattle.mix_machine.proofs.PartLemmas.{part-last, part-cells, part-one}

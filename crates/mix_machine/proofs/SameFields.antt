@@ -5,9 +5,7 @@ use Rattle.std.proofs.lemmas.Bool.Decides.{nat_tests}
 use Rattle.std.proofs.lemmas.List.{nil_from_length, length-drop}
 use Rattle.std.specs.Cmp.Lexicographic.{pointwise}
 use Rattle.mix_word.specs.Word.{WordValue, is_same_word}
-use Rattle.mix_machine.specs.Part.{is_same_kind, is_same_row, is_same_unit}
-use Rattle.mix_machine.specs.units.UnitKind.{block_length}
-use Rattle.mix_machine.specs.units.Unit.{UnitState, blocks_in}
+use Rattle.mix_machine.specs.Prelude.{is_same_kind, is_same_row, is_same_unit, block_length, UnitState, blocks_in}
 use Rattle.mix_machine.proofs.BlockLemmas.{length-blocks_in}
 use Rattle.mix_machine.proofs.SameUnit.{same-kind}
 use Rattle.mix_machine.specs.units.Alike.{is_alike}

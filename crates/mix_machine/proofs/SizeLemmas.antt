@@ -5,10 +5,8 @@ use Rattle.std.proofs.lemmas.Bool.Decides.{nat_tests}
 use Rattle.std.proofs.lemmas.List.{length-reverse}
 use Rattle.std.proofs.lemmas.Nat.{mod-mul-add, div-mul-add}
 use Rattle.undo_core.specs.Pack.{unit_list}
-use Rattle.mix_machine.specs.declared.old.Old.{Old}
+use Rattle.mix_machine.specs.Prelude.{Old, Anchor, Kind}
 use Rattle.mix_machine.specs.declared.old.Old.TheVariants as old
-use Rattle.mix_machine.specs.declared.pack.anchor.Anchor.{Anchor}
-use Rattle.mix_machine.specs.declared.pack.kind.Kind.{Kind}
 use Rattle.mix_machine.specs.declared.pack.kind.Kind.TheVariants as kind
 use Rattle.mix_machine.specs.Pack.{LastValue, kind_number, header_of, kind_of, last_of, in_one, in_two, in_three, wide_bits, time_of, shorter_row, last_cell, moment_value, whole_value, jump_value, short_value, store_value, value_by, last_value, values_before}
 

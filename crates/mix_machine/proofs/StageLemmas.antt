@@ -1,12 +1,8 @@
 -- The tests of a step made in groups find the same fault as the one order does.
 use Rattle.std.proofs.Common.{◌≡◌, ◌∙◌, Bool, true, false, cond, List, [], ◌∷◌, ◌++◌, Some, None, Ok, Err, refl}
-use Rattle.mix_word.specs.declared.decoding.Decoded.{Decoded}
-use Rattle.mix_word.specs.declared.decoding.Decoded.TheVariants.{Named, Floating, Unknown}
-use Rattle.mix_machine.specs.World.{WorldState}
-use Rattle.mix_machine.specs.Order.{applies, first_fault, order}
+use Rattle.mix_word.specs.Prelude.{Decoded, Named, Floating, Unknown}
+use Rattle.mix_machine.specs.Prelude.{WorldState, applies, first_fault, order, Arguments, MixFault}
 use Rattle.mix_machine.specs.law.Stages.{of_instruction, of_address, of_operation, fault_among}
-use Rattle.mix_machine.specs.declared.decode.Arguments.{Arguments}
-use Rattle.mix_machine.specs.declared.fault.MixFault.{MixFault}
 use Rattle.mix_machine.specs.declared.fault.MixFault.TheVariants.{NoCellAtLocation, ClockFull}
 
 among-some : {X : Type 0} (test : MixFault → Bool) (fs gs : List MixFault) (x : X) (f : MixFault) → fault_among test fs ≡ Some f →

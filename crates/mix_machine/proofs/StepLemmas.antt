@@ -3,15 +3,10 @@ use Rattle.std.proofs.Common.{ℕ, true, false, nat_eq, nat_lt, slice_get, ◌�
 use Rattle.std.proofs.lemmas.Bool.Decides.{nat_tests}
 use Rattle.std.proofs.lemmas.List.{reverse-append}
 use Rattle.std.proofs.lemmas.Nat.{mod-mul-add}
-use Rattle.mix_word.specs.Word.{WordValue, word}
-use Rattle.mix_word.specs.Register.{all_registers, number_of_register}
-use Rattle.mix_word.specs.declared.register.Reg.{Reg}
+use Rattle.mix_word.specs.Prelude.{WordValue, word, all_registers, number_of_register, Reg, Plus, Minus}
 use Rattle.mix_word.specs.declared.register.Reg.TheVariants as reg
-use Rattle.mix_word.specs.declared.word.Sign.TheVariants.{Plus, Minus}
-use Rattle.mix_machine.specs.declared.old.Old.{Old}
+use Rattle.mix_machine.specs.Prelude.{Old, Anchor, Kind}
 use Rattle.mix_machine.specs.declared.old.Old.TheVariants as old
-use Rattle.mix_machine.specs.declared.pack.anchor.Anchor.{Anchor}
-use Rattle.mix_machine.specs.declared.pack.kind.Kind.{Kind}
 use Rattle.mix_machine.specs.declared.pack.kind.Kind.TheVariants as kind
 use Rattle.mix_machine.specs.Pack.{header_of, last_of, last_value, value_by, jump_value, short_value, short_word, wide_bits, time_of, said, Says, IsAfterTime, before_moment, before_jump, before_short, moment_said, jump_said, short_said}
 use Rattle.mix_machine.proofs.PackLemmas.{said-last, said-one, register-header}

@@ -4,22 +4,12 @@ use Rattle.std.proofs.lemmas.Bool.Decides.{nat_tests}
 use Rattle.std.proofs.lemmas.List.{append-nil}
 use Rattle.undo_core.specs.Repeat.{Repeats, goes_unless}
 use Rattle.undo_core.specs.law.Repeating.{did-more}
-use Rattle.mix_refused.specs.declared.refused.Refused.{Refused}
-use Rattle.mix_refused.specs.declared.refused.Refused.TheVariants.{Fault, Memory}
-use Rattle.mix_word.specs.Word.{WordValue, parts_of}
-use Rattle.mix_word.specs.Table.{decode_of}
-use Rattle.mix_machine.specs.World.{WorldState, IsWorld, cell_of}
-use Rattle.mix_machine.specs.Decode.{arguments_of}
+use Rattle.mix_refused.specs.Prelude.{Refused, Fault, Memory}
+use Rattle.mix_word.specs.Prelude.{WordValue, parts_of, decode_of}
+use Rattle.mix_machine.specs.Prelude.{WorldState, IsWorld, cell_of, arguments_of, does, kept_values, plan_of, step_or_fault, IsReal, is_plain_next, is_step, Carried, Plan, MixFault, Change, Step, Old}
 use Rattle.mix_machine.specs.Fault.{answer_of, fault_of}
-use Rattle.mix_machine.specs.Do.{does, kept_values, plan_of, step_or_fault, IsReal, is_plain_next, is_step}
-use Rattle.mix_machine.specs.law.Carried.{Carried}
 use Rattle.mix_machine.specs.law.Steps.{Stepped, Steps, steps_on}
-use Rattle.mix_machine.specs.declared.plan.Plan.{Plan}
-use Rattle.mix_machine.specs.declared.fault.MixFault.{MixFault}
 use Rattle.mix_machine.specs.declared.fault.MixFault.TheVariants.{NoCellAtLocation}
-use Rattle.mix_machine.specs.declared.old.Change.{Change}
-use Rattle.mix_machine.specs.declared.old.Change.TheVariants.{Step}
-use Rattle.mix_machine.specs.declared.old.Old.{Old}
 
 -- what a step of the instruction in a word writes
 abbrev pub plan_in : WorldState → WordValue → Result Plan MixFault

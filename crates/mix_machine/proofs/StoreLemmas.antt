@@ -1,11 +1,8 @@
 -- What the header of a store says, after the word of its cell.
 use Rattle.std.proofs.Common.{ℕ, true, nat_eq, ◌≡◌, ◌+◌, ◌-◌, ◌*◌, ◌/◌, ◌%◌, ◌<◌, ◌≤◌, List, [], ◌∷◌, ◌++◌, length, drop, reverse, Some, IsSome, refl, ap, ◌∙◌, arith}
 use Rattle.undo_core.specs.Replay.{put_back}
-use Rattle.mix_machine.specs.World.{WorldState}
-use Rattle.mix_machine.specs.Write.{put_value}
-use Rattle.mix_machine.specs.Cells.{IsRow}
+use Rattle.mix_machine.specs.Prelude.{WorldState, put_value, IsRow, Anchor}
 use Rattle.mix_machine.specs.declared.old.Old.TheVariants as old
-use Rattle.mix_machine.specs.declared.pack.anchor.Anchor.{Anchor}
 use Rattle.mix_machine.specs.declared.pack.kind.Kind.TheVariants as kind
 use Rattle.mix_machine.specs.Pack.{header_of, last_of, store_value, long_word, said, SaysWith, before_store, store_said}
 use Rattle.mix_machine.proofs.PutLemmas.{ThreePut, three-put}

@@ -3,24 +3,13 @@ use Rattle.std.proofs.Common.{ℕ, ◌+◌, ◌-◌, ◌≡◌, ◌<◌, ◌≤�
 use Rattle.std.specs.Prelude.{slice_index_or}
 use Rattle.std.proofs.lemmas.Bool.Decides.{nat_tests}
 use Rattle.undo_core.specs.Pack.{KeptList}
-use Rattle.mix_word.specs.Word.{WordValue, zero_word}
-use Rattle.mix_word.specs.Uses.{unit_count}
-use Rattle.mix_machine.specs.World.{WorldState, IsWorld, unit_at}
-use Rattle.mix_machine.specs.units.UnitKind.{block_length, has_place, has_medium}
-use Rattle.mix_machine.specs.declared.units.kind.UnitKind.{UnitKind}
-use Rattle.mix_machine.specs.UnitAction.{transfer_end}
-use Rattle.mix_machine.specs.units.Row.{RowState, row_of}
-use Rattle.mix_machine.specs.units.Unit.{UnitState, most_entries}
+use Rattle.mix_word.specs.Prelude.{WordValue, zero_word, unit_count}
+use Rattle.mix_machine.specs.Prelude.{WorldState, IsWorld, unit_at, block_length, has_place, has_medium, UnitKind, transfer_end, RowState, row_of, UnitState, most_entries, Write, set, busy, write_all, set_value, each, from_block, from_cell, fits, place_after, words_out, row_writes, replace_writes, append_writes, output_writes, Transfer, Old, At, Cell, Item, Until, Wrote}
 use Rattle.mix_machine.specs.units.Units.{UnitsState, add_blocks, add_row, length_of, length_at}
 use Rattle.mix_machine.specs.units.Keep.{keep-add_blocks, keep-add_row}
-use Rattle.mix_machine.specs.Write.{Write, set, busy, write_all, set_value, each, from_block, from_cell, fits, place_after, words_out, row_writes, replace_writes, append_writes, output_writes}
 use Rattle.mix_machine.specs.law.Fits.{with-units}
 use Rattle.mix_machine.specs.law.Plans.{InputFits, OutputFits, ready, world-place, fits-place-in}
 use Rattle.mix_machine.specs.law.Units.{unit-with}
-use Rattle.mix_machine.specs.declared.plan.Transfer.{Transfer}
-use Rattle.mix_machine.specs.declared.old.Old.{Old}
-use Rattle.mix_machine.specs.declared.old.Old.TheVariants.{At, Cell, Item, Until}
-use Rattle.mix_machine.specs.law.Wrote.{Wrote}
 use Rattle.mix_machine.proofs.WriteLemmas.{joined}
 
 -- the place, the time and the words

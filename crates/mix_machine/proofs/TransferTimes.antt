@@ -3,29 +3,11 @@ use Rattle.std.specs.Prelude.{ℕ, ◌-◌, Bool, true, false, not, cond, nat_lt
 use Rattle.std.proofs.Common.{sym, subst, arith}
 use Rattle.std.proofs.lemmas.Bool.Decides.{nat_tests}
 use Rattle.mix_word.specs.Uses.{unit_count}
-use Rattle.mix_machine.specs.World.{WorldState, IsWorld, unit_at}
-use Rattle.mix_machine.specs.Decode.{decode_at, arguments_at}
-use Rattle.mix_machine.specs.Effects.{effects}
-use Rattle.mix_machine.specs.Order.{applies, order, first_fault, operation_or_nop}
-use Rattle.mix_machine.specs.Do.{does, plan_of, state_after, step_plan}
-use Rattle.mix_machine.specs.UnitAction.{transfer_end}
-use Rattle.mix_machine.specs.Write.{set, grow, print, write_all, each, from_block, from_cell, words_out, place_after, input_writes, replace_writes, append_writes, row_writes, writes_in, writes_of}
-use Rattle.mix_machine.specs.Transfers.{made_by, transfer_by}
-use Rattle.mix_machine.specs.units.UnitKind.{block_length, has_medium}
-use Rattle.mix_machine.specs.units.Row.{row_of}
-use Rattle.mix_machine.specs.units.Keep.{length-units}
+use Rattle.mix_machine.specs.Prelude.{WorldState, IsWorld, unit_at, decode_at, arguments_at, effects, applies, order, first_fault, operation_or_nop, does, plan_of, state_after, step_plan, transfer_end, set, grow, print, write_all, each, from_block, from_cell, words_out, place_after, input_writes, replace_writes, append_writes, row_writes, writes_in, writes_of, made_by, transfer_by, block_length, has_medium, row_of, length-units, UnitKind, Transfer, Writes, Plan, Pending, MixFault, Change, Step, SetReg, SetCell, SetLoc, SetOver, SetCmp, Break, Clear}
 use Rattle.mix_machine.proofs.AlteredLemmas.{Timeless, every-each, timed}
 use Rattle.mix_machine.proofs.WriteLemmas.{write_all-append}
-use Rattle.mix_machine.specs.declared.units.kind.UnitKind.{UnitKind}
-use Rattle.mix_machine.specs.declared.plan.Transfer.{Transfer}
-use Rattle.mix_machine.specs.declared.plan.Writes.{Writes}
 use Rattle.mix_machine.specs.declared.plan.Writes.TheVariants.{Nothing, Register, RegisterAndToggle, Pair, PairAndToggle, Cell as CellOf, Indicator, Copy, Input, Output, Control}
-use Rattle.mix_machine.specs.declared.plan.Plan.{Plan}
 use Rattle.mix_machine.specs.declared.plan.Plan.TheVariants as plan
-use Rattle.mix_machine.specs.declared.transfers.Pending.{Pending}
-use Rattle.mix_machine.specs.declared.fault.MixFault.{MixFault}
-use Rattle.mix_machine.specs.declared.old.Change.{Change}
-use Rattle.mix_machine.specs.declared.old.Change.TheVariants.{Step, SetReg, SetCell, SetLoc, SetOver, SetCmp, Break, Clear}
 use Rattle.mix_machine.specs.declared.old.Old.TheVariants.{Loc, Clock}
 
 -- after writes the unit of a transfer is free when it ends

@@ -5,9 +5,7 @@ use Rattle.std.proofs.lemmas.Bool.Decides.{nat_tests}
 use Rattle.std.specs.Vec.{with_item}
 use Rattle.std.proofs.lemmas.List.{get_or_read, length-take-le, length-replicate}
 use Rattle.mix_word.specs.Word.{WordValue, zero_word}
-use Rattle.mix_machine.specs.units.UnitKind.{block_length, has_medium, has_output}
-use Rattle.mix_machine.specs.units.Unit.{blocks_in, UnitState, IsUnit, word_of, with_word, with_blocks}
-use Rattle.mix_machine.specs.units.Units.{cut_to, can_cut, length_of}
+use Rattle.mix_machine.specs.Prelude.{block_length, has_medium, has_output, blocks_in, UnitState, IsUnit, word_of, with_word, with_blocks, cut_to, can_cut, length_of}
 use Rattle.mix_machine.specs.units.View.{unit_of_fields, AreFields}
 use Rattle.mix_machine.specs.units.Keep.{is-with_word}
 use Rattle.mix_machine.proofs.BlockLemmas.{length-blocks_in, word-in, blocks-set, blocks-take, blocks-more}

@@ -3,12 +3,8 @@ use Rattle.std.proofs.Common.{ℕ, ◌≡◌, ◌<◌, ◌≤◌, ◌∙◌, IsT
 use Rattle.std.proofs.lemmas.Bool.Decides.{nat_tests}
 use Rattle.std.proofs.lemmas.List.{get_or_read, set-get_or, take_all}
 use Rattle.mix_word.specs.Uses.{unit_count}
-use Rattle.mix_machine.specs.units.UnitKind.{kinds, block_length}
-use Rattle.mix_machine.specs.units.Unit.{UnitState, IsUnit, empty_unit}
+use Rattle.mix_machine.specs.Prelude.{kinds, block_length, UnitState, IsUnit, empty_unit, length-units, UnitKind, Tape}
 use Rattle.mix_machine.specs.units.Units.{UnitsState, AllUnits, AreUnits, empty_units, fits_item, unit_of, with_unit}
-use Rattle.mix_machine.specs.units.Keep.{length-units}
-use Rattle.mix_machine.specs.declared.units.kind.UnitKind.{UnitKind}
-use Rattle.mix_machine.specs.declared.units.kind.UnitKind.TheVariants.{Tape}
 
 -- the units with nothing in them
 is-empty : (kind : UnitKind) → IsUnit (empty_unit kind)

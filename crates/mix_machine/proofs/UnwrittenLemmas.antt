@@ -3,30 +3,13 @@ use Rattle.std.specs.Prelude.{ℕ, zero, suc, ◌+◌, Bool, true, false, not, c
 use Rattle.std.proofs.Common.{subst, ◌∙◌, arith}
 use Rattle.std.proofs.lemmas.Bool.Decides.{nat_tests}
 use Rattle.std.proofs.lemmas.List.{get_or-set_other}
-use Rattle.mix_word.specs.Word.{WordValue, zero_word}
-use Rattle.mix_word.specs.declared.register.Reg.{Reg}
-use Rattle.mix_machine.specs.Registers.{fits_register}
-use Rattle.mix_machine.specs.World.{WorldState, cell_of, unit_at}
-use Rattle.mix_machine.specs.Decode.{decode_at, arguments_at}
-use Rattle.mix_machine.specs.Effects.{effects}
-use Rattle.mix_machine.specs.Order.{applies, order, first_fault, operation_or_nop}
-use Rattle.mix_machine.specs.Do.{does, plan_of, state_after, step_plan}
-use Rattle.mix_machine.specs.Write.{set_value, Write, set, grow, print, written, write_all, copies, each, place_after, from_block, from_cell, input_writes, replace_writes, append_writes, row_writes, control_writes, writes_in, writes_of}
+use Rattle.mix_word.specs.Prelude.{WordValue, zero_word, Reg}
+use Rattle.mix_machine.specs.Prelude.{fits_register, WorldState, cell_of, unit_at, decode_at, arguments_at, effects, applies, order, first_fault, operation_or_nop, does, plan_of, state_after, step_plan, set_value, Write, set, grow, print, written, write_all, copies, each, place_after, from_block, from_cell, input_writes, replace_writes, append_writes, row_writes, control_writes, writes_in, writes_of, block_length, has_place, has_medium, UnitKind, Tape, Disk, CardReader, CardPunch, Printer, Typewriter, PaperTape, Transfer, Writes, Plan, MixFault, IndexOverflow, Change, Old}
 use Rattle.mix_machine.specs.Access.{cells_from, has_cell, cells_written, access_of}
-use Rattle.mix_machine.specs.units.UnitKind.{block_length, has_place, has_medium}
 use Rattle.mix_machine.proofs.AlteredLemmas.{Every, every-append}
-use Rattle.mix_machine.specs.declared.units.kind.UnitKind.{UnitKind}
-use Rattle.mix_machine.specs.declared.units.kind.UnitKind.TheVariants.{Tape, Disk, CardReader, CardPunch, Printer, Typewriter, PaperTape}
-use Rattle.mix_machine.specs.declared.plan.Transfer.{Transfer}
-use Rattle.mix_machine.specs.declared.plan.Writes.{Writes}
 use Rattle.mix_machine.specs.declared.plan.Writes.TheVariants.{Nothing, Register, RegisterAndToggle, Pair, PairAndToggle, Cell as CellOf, Indicator, Copy, Input, Output, Control}
-use Rattle.mix_machine.specs.declared.plan.Plan.{Plan}
 use Rattle.mix_machine.specs.declared.plan.Plan.TheVariants as plan
-use Rattle.mix_machine.specs.declared.fault.MixFault.{MixFault}
-use Rattle.mix_machine.specs.declared.fault.MixFault.TheVariants.{IndexOverflow}
-use Rattle.mix_machine.specs.declared.old.Change.{Change}
 use Rattle.mix_machine.specs.declared.old.Change.TheVariants.{Step, SetReg, SetCell, SetLoc, SetOver, SetCmp, Break as SetBreak, Clear}
-use Rattle.mix_machine.specs.declared.old.Old.{Old}
 use Rattle.mix_machine.specs.declared.old.Old.TheVariants.{Loc, Clock, Reg as OldRegister, Cell, Over, Cmp as OldCmp, Break, At, Len, Item, Until}
 
 -- a value that is none of a cell

@@ -2,11 +2,8 @@
 use Rattle.std.proofs.Common.{ℕ, zero, suc, ◌+◌, ◌≤◌, ◌≡◌, ◌∙◌, List, [], ◌∷◌, ◌++◌, length, ap, sym, refl, arith, length-append, append_assoc}
 use Rattle.std.proofs.lemmas.List.{append-nil}
 use Rattle.undo_core.specs.Pack.{KeptList}
-use Rattle.mix_machine.specs.World.{WorldState, cell_of}
+use Rattle.mix_machine.specs.Prelude.{WorldState, cell_of, HasRoom, Wrote, Old, Cell}
 use Rattle.mix_machine.specs.Write.{Write, set, written, replaced, write_all, kept_by, copies}
-use Rattle.mix_machine.specs.law.Wrote.{HasRoom, Wrote}
-use Rattle.mix_machine.specs.declared.old.Old.{Old}
-use Rattle.mix_machine.specs.declared.old.Old.TheVariants.{Cell}
 
 pub write_all-append : (w : WorldState) (xs ys : List Write) → write_all w (xs ++ ys) ≡ write_all (write_all w xs) ys
 write_all-append w [] ys = refl

@@ -12,6 +12,7 @@ pub mod Many
 pub mod Order
 pub mod Pack
 pub mod Part
+pub mod Prelude
 pub mod Registers
 pub mod Transfers
 pub mod UnitAction

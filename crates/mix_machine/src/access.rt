@@ -1,9 +1,6 @@
 //! Which cells a change uses, and at which clock (1.3.1).
 ghost use Rattle.std.specs.Prelude.{◌≡◌, ◌<◌, ◌≤◌, ◌^◌};
-ghost use Rattle.mix_machine.specs.World.{cell_of, unit_at};
-ghost use Rattle.mix_machine.specs.Decode.{arguments_at};
-ghost use Rattle.mix_machine.specs.Effects.{effects, copy_of};
-ghost use Rattle.mix_machine.specs.UnitAction.{use_of, start_of, transfer_start};
+ghost use Rattle.mix_machine.specs.Prelude.{cell_of, unit_at, arguments_at, effects, copy_of, use_of, start_of, transfer_start};
 ghost use Rattle.mix_machine.specs.Access.{cells_from, no_cells, block_from, cells_read, cells_written, operation_at, access_of_step, access_of_value, access_of};
 
 use crate::decode::Arguments;

@@ -1,7 +1,6 @@
 //! The address M of an instruction (1.3.1): the sum of its AA and an index register.
 ghost use Rattle.std.specs.Prelude.{◌≡◌, ◌<◌, ◌↔◌, IsTrue, IsSome, IfSome};
-ghost use Rattle.mix_word.specs.Word.{word, zero_word};
-ghost use Rattle.mix_word.specs.Arithmetic.{sum_of};
+ghost use Rattle.mix_word.specs.Prelude.{word, zero_word, sum_of};
 ghost use Rattle.mix_machine.specs.Decode.{is_cell};
 
 use mix_word::{Place, Sign, Word};

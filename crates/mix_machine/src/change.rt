@@ -1,8 +1,6 @@
 //! One change of the machine: a step, or one value set.
 ghost use Rattle.std.specs.Prelude.{◌≡◌, ◌<◌, Ok, IsTrue};
-ghost use Rattle.mix_machine.specs.Write.{fits};
-ghost use Rattle.mix_machine.specs.Do.{plan_of, IsReal};
-ghost use Rattle.mix_machine.specs.law.Carried.{Carried};
+ghost use Rattle.mix_machine.specs.Prelude.{fits, plan_of, IsReal, Carried};
 ghost use Rattle.mix_machine.specs.declared.plan.Plan.TheVariants.{Value};
 
 use crate::fault::MixFault;

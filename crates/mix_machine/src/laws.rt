@@ -1,19 +1,9 @@
 //! What follows from the definitions alone.
 ghost use Rattle.std.specs.Prelude.{◌≡◌, ◌≢◌, ◌≤◌, ◌<◌, ◌*◌, ◌↔◌, IsTrue, not, List, Ok, Some, length};
 ghost use Rattle.undo_core.specs.Replay.{count_kept, put_back};
-ghost use Rattle.mix_word.specs.declared.operation.Operation.TheVariants.{Hlt};
-ghost use Rattle.mix_word.specs.declared.decoding.Decoded.TheVariants.{Named};
-ghost use Rattle.mix_machine.specs.World.{WorldState, IsWorld};
-ghost use Rattle.mix_machine.specs.Decode.{decode_at};
-ghost use Rattle.mix_machine.specs.Do.{does, is_halt_next, kept_values, IsReal};
+ghost use Rattle.mix_word.specs.Prelude.{Hlt, Named};
+ghost use Rattle.mix_machine.specs.Prelude.{WorldState, IsWorld, decode_at, does, is_halt_next, kept_values, IsReal, UnitState, put_value, IsPart, mark_of, mark_before, is_same_mark, is_same_unit, is_altered, Change, Step, Old, Part};
 ghost use Rattle.mix_machine.specs.KeptCount.{kept_count, most_kept};
-ghost use Rattle.mix_machine.specs.units.Unit.{UnitState};
-ghost use Rattle.mix_machine.specs.Write.{put_value};
-ghost use Rattle.mix_machine.specs.Part.{IsPart, mark_of, mark_before, is_same_mark, is_same_unit, is_altered};
-ghost use Rattle.mix_machine.specs.declared.old.Change.{Change};
-ghost use Rattle.mix_machine.specs.declared.old.Change.TheVariants.{Step};
-ghost use Rattle.mix_machine.specs.declared.old.Old.{Old};
-ghost use Rattle.mix_machine.specs.declared.part.Part.{Part};
 
 use mix_word::decode_law;
 

@@ -1,7 +1,6 @@
 //! Old values in units of 32 bits.
 ghost use Rattle.std.specs.Prelude.{refl};
-ghost use Rattle.mix_machine.specs.Pack.{said};
-ghost use Rattle.mix_machine.specs.Write.{is_clock};
+ghost use Rattle.mix_machine.specs.Prelude.{said, is_clock};
 ghost use Rattle.mix_machine.specs.law.Packed.{said-fewer};
 
 mod anchor;

@@ -1,9 +1,8 @@
 //! A plan carried out: its values written in their order, and those that they replace kept.
 ghost use Rattle.std.specs.Prelude.{◌≡◌, ◌<◌, ◌≤◌, ◌+◌, IsTrue};
 ghost use Rattle.mix_machine.specs.Order.{all_fit};
-ghost use Rattle.mix_machine.specs.Write.{copies, writes_in, writes_of};
+ghost use Rattle.mix_machine.specs.Prelude.{copies, writes_in, writes_of, HasRoom, Wrote, Tried};
 ghost use Rattle.mix_machine.specs.law.Plans.{plan_fits, PlanFits, UnitFits};
-ghost use Rattle.mix_machine.specs.law.Wrote.{HasRoom, Wrote, Tried};
 
 use crate::cells::{Cells, copy_words};
 use crate::old::Old;

@@ -1,13 +1,9 @@
 //! Kept values put back: what one header says at once, or one value.
 ghost use Rattle.std.specs.Prelude.{◌≡◌, ◌-◌, ◌/◌, ◌<◌, ◌≤◌, ◌++◌, [], ◌∷◌, IsSome, IfSome, IsTrue, length, drop, reverse, vec_len, vec_capacity};
 ghost use Rattle.undo_core.specs.Replay.{put_back};
-ghost use Rattle.mix_machine.specs.World.{last_clock};
-ghost use Rattle.mix_machine.specs.Write.{put_value, set_value, fits};
+ghost use Rattle.mix_machine.specs.Prelude.{last_clock, put_value, set_value, fits, header_of, last_value, said, IsRow, Restored};
 ghost use Rattle.mix_machine.specs.declared.old.Old.TheVariants as old;
 ghost use Rattle.mix_machine.specs.declared.pack.kind.Kind.TheVariants as kind;
-ghost use Rattle.mix_machine.specs.Pack.{header_of, last_value, said};
-ghost use Rattle.mix_machine.specs.Cells.{IsRow};
-ghost use Rattle.mix_machine.specs.law.Restored.{Restored};
 
 mod stored;
 

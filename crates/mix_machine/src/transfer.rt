@@ -1,14 +1,10 @@
 //! What IN, OUT and IOC write (1.3.1, "Input-output operators"): a block moved between a unit and the cells, the place and the time of the
 //! unit, and what it holds more.
 ghost use Rattle.std.specs.Prelude.{◌≡◌, ◌<◌, ◌≤◌, ℕ, ◌+◌, ◌^◌, true, false, length, IsTrue, OnErr};
-ghost use Rattle.mix_machine.specs.World.{unit_at};
+ghost use Rattle.mix_machine.specs.Prelude.{unit_at, fits, each, from_block, from_cell, place_after, input_writes, replace_writes, append_writes, row_writes, output_writes, control_writes, block_length, has_place, has_medium, fits_item, HasRoom, Wrote, Tried};
 ghost use Rattle.mix_machine.specs.UnitAction.{transfer_start, transfer_end, marks_page};
-ghost use Rattle.mix_machine.specs.Write.{fits, each, from_block, from_cell, place_after, input_writes, replace_writes, append_writes, row_writes, output_writes, control_writes};
-ghost use Rattle.mix_machine.specs.units.UnitKind.{block_length, has_place, has_medium};
 ghost use Rattle.mix_machine.specs.units.Unit.{most_entries, last_until};
-ghost use Rattle.mix_machine.specs.units.Units.{fits_item};
 ghost use Rattle.mix_machine.specs.law.Plans.{InputFits, OutputFits, ControlFits};
-ghost use Rattle.mix_machine.specs.law.Wrote.{HasRoom, Wrote, Tried};
 
 use crate::old::Old;
 use crate::perform::place;

@@ -1,11 +1,8 @@
 //! The transfers under way, and which change conflicts with one (1.3.1, "Input-output operators").
 ghost use Rattle.std.specs.Prelude.{◌≡◌, ◌<◌, ◌≤◌, ◌+◌, ℕ, false, Ok, Some, None, drop, nat_lt, slice_index_or};
 ghost use Rattle.mix_word.specs.Uses.{unit_count};
-ghost use Rattle.mix_machine.specs.World.{WorldState, IsWorld, cell_of, unit_at};
+ghost use Rattle.mix_machine.specs.Prelude.{WorldState, IsWorld, cell_of, unit_at, does, Change, Pending};
 ghost use Rattle.mix_machine.specs.Access.{has_cell, access_of};
-ghost use Rattle.mix_machine.specs.Do.{does};
-ghost use Rattle.mix_machine.specs.declared.old.Change.{Change};
-ghost use Rattle.mix_machine.specs.declared.transfers.Pending.{Pending};
 ghost use Rattle.mix_machine.specs.Transfers.{TransfersState, last_end, no_transfers, transfer_by, with_transfer, transfers_after, common, fetch_forbidden, use_forbidden, forbidden, conflict_with, conflict_from, conflict_of};
 
 mod made;

@@ -1,9 +1,6 @@
 //! The machine as a state whose changes can be taken back by the values that they replaced.
 ghost use Rattle.std.specs.Prelude.{◌&&◌};
-ghost use Rattle.mix_machine.specs.World.{IsWorld};
-ghost use Rattle.mix_machine.specs.Many.{ends_at};
-ghost use Rattle.mix_machine.specs.Write.{put_value};
-ghost use Rattle.mix_machine.specs.Do.{does, kept_values, IsReal, is_plain_next, is_step};
+ghost use Rattle.mix_machine.specs.Prelude.{IsWorld, ends_at, put_value, does, kept_values, IsReal, is_plain_next, is_step};
 ghost use Rattle.mix_machine.specs.law.Parts.{parts-does};
 ghost use Rattle.mix_machine.specs.law.Undone.{undone-does};
 

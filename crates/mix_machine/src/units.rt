@@ -1,8 +1,6 @@
 //! The units of the machine (1.3.1, "Input-output operators").
 ghost use Rattle.std.specs.Prelude.{◌≡◌, ◌<◌, ◌≤◌, ◌+◌, ◌/◌, ◌%◌, None, IfOk, OnOk, OnErr, IsTrue, length};
-ghost use Rattle.mix_machine.specs.units.UnitKind.{block_length};
-ghost use Rattle.mix_machine.specs.units.Row.{row_of};
-ghost use Rattle.mix_machine.specs.units.Unit.{most_entries, last_delay};
+ghost use Rattle.mix_machine.specs.Prelude.{block_length, row_of, most_entries, last_delay};
 ghost use Rattle.mix_machine.specs.units.Units.{empty_units, unit_of, set_place, fits_place, set_length, length_at, fits_length, set_item, item_at, fits_item, set_until, fits_until, add_blocks, add_row, set_delay, fill};
 
 mod deck;

@@ -1,8 +1,7 @@
 //! The state of the machine, and what can be read of it (1.3.1).
 ghost use Rattle.std.specs.Prelude.{◌≡◌, ◌<◌, ◌≤◌, ◌==◌, ◌&&◌, ◌↔◌, ℕ, true, false, IsTrue, IfOk, MatchOption};
 ghost use Rattle.mix_word.specs.Word.{parts_of};
-ghost use Rattle.mix_machine.specs.World.{register_of, cell_of, unit_at, has_break, last_clock};
-ghost use Rattle.mix_machine.specs.Do.{is_halt_next, is_looked_at, is_plain_next};
+ghost use Rattle.mix_machine.specs.Prelude.{register_of, cell_of, unit_at, has_break, last_clock, is_halt_next, is_looked_at, is_plain_next};
 
 use crate::breakpoints::Breakpoints;
 use crate::registers::Registers;

@@ -5,8 +5,7 @@ use Rattle.std.specs.Str.{str_eq_ignore_ascii_case}
 use Rattle.std.specs.List.{list_any}
 use Rattle.mix_lines.specs.Lines.{words}
 use Rattle.mix_word.specs.Register.{all_registers, name_of_register}
-use Rattle.mixal_text.specs.Names.{NamesValue}
-use Rattle.mixal_text.specs.Symbol.{symbol_of}
+use Rattle.mixal_text.specs.Prelude.{NamesValue, symbol_of}
 use Rattle.mix_person.specs.declared.person.Line.{Line}
 use Rattle.mix_person.specs.declared.person.Line.TheVariants as line_kind
 use Rattle.mix_person.specs.declared.word.PersonWord.{PersonWord}

@@ -10,9 +10,7 @@ use Rattle.mixal_asm.specs.declared.diagnostic.Diagnostic.{Diagnostic}
 use Rattle.mix_check.specs.Report.{Adds, Report, SaysAll, has_faults, is_binary}
 use Rattle.mix_check.proofs.SayingLemmas.{some-report}
 use Rattle.mix_run.specs.Check.{AreReports, Checks, Named, some_faulty}
-use Rattle.mix_run.specs.Fault.{IsMemoryOrRead}
-use Rattle.mix_run.specs.Output.{Meets}
-use Rattle.mix_run.specs.declared.fault.ToolFault.{ToolFault}
+use Rattle.mix_run.specs.Prelude.{IsMemoryOrRead, Meets, ToolFault}
 use Rattle.mix_run.specs.declared.fault.ToolFault.TheVariants as faults
 use Rattle.mix_run.proofs.WritesLemmas.{begun-none}
 use Rattle.mix_run.specs.law.Truncation.{limited-take}

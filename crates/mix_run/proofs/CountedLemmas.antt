@@ -6,27 +6,11 @@ use Rattle.std.proofs.Common.{Option, Ok, Err, codes, subst, ◌∙◌}
 use Rattle.std.specs.Io.KnownBytes.{Appends}
 use Rattle.mix_stream.specs.Stream.{AppendsFront}
 use Rattle.mix_run.specs.declared.fault.ToolFault.TheVariants as faults
-use Rattle.mix_machine.specs.World.{WorldState}
-use Rattle.mix_machine.specs.units.Units.{UnitsState}
-use Rattle.mix_session.specs.Command.{after}
-use Rattle.mix_session.specs.Counts.{tally_at}
-use Rattle.mix_session.specs.Session.{SessionState, opened}
-use Rattle.mix_session.specs.Tally.{tally_in}
-use Rattle.mix_session.specs.Timeline.{Timeline, world_of}
-use Rattle.mix_session.specs.declared.tally.Tally.{Tally}
+use Rattle.mix_machine.specs.Prelude.{WorldState, UnitsState}
+use Rattle.mix_session.specs.Prelude.{after, tally_at, SessionState, opened, tally_in, Timeline, world_of, Tally}
 use Rattle.mix_run.specs.Counted.{EndTableValue, count_names, count_row, count_rows, count_rows_at, counted_run, counted_steps, counts_table, end_of, end_text}
-use Rattle.mix_run.specs.Drawn.{DrawnIf}
-use Rattle.mix_run.specs.Keep.{kept_if}
-use Rattle.mix_run.specs.Print.{counted}
+use Rattle.mix_run.specs.Prelude.{DrawnIf, kept_if, counted, FieldValue, footer_text, header_text, row_text, rows_text, table_text, Ran, PrintAnswer, Printed, PrintOptions, RunEnd, Stepped, TableFormat}
 use Rattle.mix_run.specs.PrintOutput.{Leaves, came_to, counted_outcome, ran_to}
-use Rattle.mix_run.specs.Table.{FieldValue, footer_text, header_text, row_text, rows_text, table_text}
-use Rattle.mix_run.specs.declared.print.PrintAnswer.TheVariants.{Ran}
-use Rattle.mix_run.specs.declared.print.PrintAnswer.{PrintAnswer}
-use Rattle.mix_run.specs.declared.print.Printed.{Printed}
-use Rattle.mix_run.specs.declared.print.options.PrintOptions.{PrintOptions}
-use Rattle.mix_run.specs.declared.print.steps.RunEnd.{RunEnd}
-use Rattle.mix_run.specs.declared.print.steps.Stepped.{Stepped}
-use Rattle.mix_run.specs.declared.table.TableFormat.{TableFormat}
 
 -- the row of a cell, if it has one, and then those of the cells after it
 rows-cell : (format : TableFormat) (names : List FieldValue) (first : Bool) (program : ProgramValue) (tally : Tally) (p : ℕ) (rest : List (List FieldValue))

@@ -2,28 +2,17 @@
 use Rattle.std.proofs.Common.{◌≡◌, ◌∙◌, ◌||◌, ℕ, Bool, true, false, List, [], Option, None, Some, Result, Ok, Err, ap, is_some, refl, sym}
 use Rattle.std.specs.Io.KnownBytes.{Appends}
 use Rattle.mixal_asm.specs.Program.{ProgramValue}
-use Rattle.mix_machine.specs.Loaded.{loaded}
-use Rattle.mix_machine.specs.World.{WorldState}
-use Rattle.mix_machine.specs.declared.part.Part.{Part}
-use Rattle.mix_machine.specs.units.Units.{UnitsState}
-use Rattle.mix_session.specs.Change.{world_at}
-use Rattle.mix_session.specs.Session.{SessionState, opened}
-use Rattle.mix_session.specs.declared.fault.Refusal.{Refusal}
+use Rattle.mix_machine.specs.Prelude.{loaded, WorldState, Part, UnitsState}
+use Rattle.mix_session.specs.Prelude.{world_at, SessionState, opened, Refusal}
 use Rattle.mix_run.specs.Counted.{EndTableValue, end_table_asked, end_table_of}
 use Rattle.mix_run.specs.Drawn.{DrawnIf, DrawnRun, DrawnSteps}
-use Rattle.mix_run.specs.Keep.{kept_if}
-use Rattle.mix_run.specs.Print.{Run, counted, run_of}
+use Rattle.mix_run.specs.Prelude.{kept_if, Run, counted, run_of, ToolFault, NoTable, Ran, Printed, PrintOptions, Stepped}
 use Rattle.mix_run.specs.PrintOutput.{Leaves, answered, came_to, counted_outcome, outcome_of_run, printed_outcome}
 use Rattle.mix_run.specs.StepTable.{part_named, run_told, step_table, table_of}
 use Rattle.mix_run.specs.Writes.{Broken}
-use Rattle.mix_run.specs.declared.fault.ToolFault.{ToolFault}
-use Rattle.mix_run.specs.declared.print.PrintAnswer.TheVariants.{NoTable, Ran}
-use Rattle.mix_run.specs.declared.print.Printed.{Printed}
 use Rattle.mix_run.specs.declared.print.options.AskedTable.{AskedTable}
-use Rattle.mix_run.specs.declared.print.options.PrintOptions.{PrintOptions}
 use Rattle.mix_run.specs.declared.print.options.TableOf.{TableOf}
 use Rattle.mix_run.specs.declared.print.options.TableOf.TheVariants as ofs
-use Rattle.mix_run.specs.declared.print.steps.Stepped.{Stepped}
 use Rattle.mix_run.specs.declared.print.tabled.StepTable.{StepTable}
 use Rattle.mix_run.proofs.Written.{Appends-nothing}
 

@@ -5,14 +5,9 @@ use Rattle.std.proofs.lemmas.Str.{IsUtf8-from_is_utf8, is_utf8-from_IsUtf8}
 use Rattle.std.specs.List.{slice_split}
 use Rattle.std.specs.Option.{option_and_then}
 use Rattle.std.specs.Str.{IsUtf8, is_utf8}
-use Rattle.mix_formula.specs.Found.{all_values}
-use Rattle.mix_formula.specs.Given.{given_of}
-use Rattle.mix_formula.specs.Names.{NameValue, all_named, named}
-use Rattle.mix_formula.specs.Rows.{RowValue}
-use Rattle.mix_formula.specs.declared.names.Named.{Named}
+use Rattle.mix_formula.specs.Prelude.{all_values, given_of, NameValue, all_named, named, RowValue, Named}
 use Rattle.mix_views.specs.Analysis.{given_first, given_in, given_onto}
-use Rattle.mixal_text.specs.Part.{is_comma}
-use Rattle.mixal_text.specs.Words.{pieces_of}
+use Rattle.mixal_text.specs.Prelude.{is_comma, pieces_of}
 use Rattle.mix_run.specs.Formulas.{formula_field, formula_names, formula_rows, lines_table}
 use Rattle.mix_run.specs.Table.{FieldValue, Text, Missing, footer_text, header_text, rows_text, table_text}
 use Rattle.mix_run.specs.declared.table.TableFormat.{TableFormat}

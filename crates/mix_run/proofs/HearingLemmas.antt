@@ -7,30 +7,21 @@ use Rattle.std.proofs.lemmas.List.Folds.{list_any-append}
 use Rattle.std.specs.List.{list_any}
 use Rattle.std.specs.Io.KnownBytes.{Appends}
 use Rattle.mix_lines.specs.Lines.{is_line_feed, lines, lines-nil, words}
-use Rattle.mix_session.specs.Session.{SessionState}
-use Rattle.mix_session.specs.Reply.{told_of_both}
-use Rattle.mix_session.specs.declared.reply.Told.{Told}
-use Rattle.mix_session.specs.declared.reply.Told.TheVariants.{Accepted}
+use Rattle.mix_session.specs.Prelude.{SessionState, told_of_both, Told, Accepted}
 use Rattle.mix_stream.specs.Stream.{AppendsFront}
-use Rattle.mix_run.specs.Asked.{after_lines, answers, asked, is_over, is_quit, recalled_all}
-use Rattle.mix_run.specs.Fault.{IsMemoryOrWrite}
+use Rattle.mix_run.specs.Prelude.{after_lines, answers, asked, is_over, is_quit, recalled_all, IsMemoryOrWrite, Files, Saved, noted, replies, ToolFault, Talker, Moment}
 use Rattle.mix_run.specs.Hearing.{Answered, Hears}
-use Rattle.mix_run.specs.Opening.{Files, Saved, noted}
-use Rattle.mix_run.specs.Output.{replies}
 use Rattle.mix_run.specs.Recall.{RecallState, meant, recalled}
 use Rattle.mix_run.specs.Reload.{moment_of, reloaded}
 use Rattle.mix_run.specs.Saves.{is_save, saves_of}
 use Rattle.mix_run.specs.Sources.{Knows, is_reload, is_source, reads_file, sources_by, stands_by, stands_for}
 use Rattle.mix_run.specs.Stretch.{in_session, joined, saving, silent, talk_of, typed_line}
 use Rattle.mix_run.specs.Talk.{AnswersRead, TalksTo, is_too_long, is_whole, max_line_bytes}
-use Rattle.mix_run.specs.declared.fault.ToolFault.{ToolFault}
 use Rattle.mix_run.specs.declared.fault.ToolFault.TheVariants as faults
 use Rattle.mix_person.specs.Person.{kind_of}
-use Rattle.mix_run.specs.declared.talk.heard.Heard.{Heard}
 use Rattle.mix_person.specs.declared.person.Line.{Line}
+use Rattle.mix_run.specs.declared.talk.heard.Heard.{Heard}
 use Rattle.mix_person.specs.declared.person.Line.TheVariants as line_kind
-use Rattle.mix_run.specs.declared.talk.aside.Talker.{Talker}
-use Rattle.mix_run.specs.declared.talk.moment.Moment.{Moment}
 use Rattle.mix_run.specs.declared.talk.aside.Talker.TheVariants as talkers
 use Rattle.mix_run.proofs.StretchLemmas.{Answered-as, Answered-begun, Answered-nothing, Answered-over, Answered-then, joined-end, talk-append, talk-one, then-more}
 use Rattle.std.proofs.lemmas.Bool.{or_parts, or_right}

@@ -3,15 +3,10 @@ use Rattle.std.proofs.Common.{◌≡◌, ◌∙◌, ℕ, List, take, Result, Ok,
 use Rattle.std.specs.Prelude.{OnOk}
 use Rattle.mix_refused.specs.declared.refused.Refused.{Refused}
 use Rattle.mix_refused.specs.declared.refused.Refused.TheVariants as refused
-use Rattle.mixal_asm.specs.Assembly.{assembly}
-use Rattle.mixal_asm.specs.Program.{ProgramValue}
-use Rattle.mixal_asm.specs.declared.fault.AsmFault.{AsmFault}
-use Rattle.mix_run.specs.Opening.{GivesText}
-use Rattle.mix_run.specs.PrintOutput.{parts_of}
+use Rattle.mixal_asm.specs.Prelude.{assembly, ProgramValue, AsmFault}
+use Rattle.mix_run.specs.Prelude.{GivesText, parts_of, Reason, Moment}
 use Rattle.mix_run.specs.Reload.{reloaded, reloaded_as}
 use Rattle.mix_run.specs.declared.opener.Unread.{Unread}
-use Rattle.mix_run.specs.declared.reason.Reason.{Reason}
-use Rattle.mix_run.specs.declared.talk.moment.Moment.{Moment}
 use Rattle.mix_run.proofs.DebugLemmas.{parts-made, parts-whole}
 
 -- a source that is not refused is all of that of the text

@@ -4,29 +4,19 @@ use Rattle.std.proofs.lemmas.Bool.{eqb-true, lt-ltb, le-ltb}
 use Rattle.std.proofs.lemmas.List.{append-nil}
 pub use Rattle.std.proofs.KnownBytes.{Keeps-refl as Keeps-same}
 use Rattle.std.specs.Io.KnownBytes.{Appends}
-use Rattle.mix_session.specs.Session.{SessionState, opened, effect_in}
-use Rattle.mix_session.specs.Command.{after}
-use Rattle.mix_session.specs.Answer.{told_of}
+use Rattle.mix_session.specs.Prelude.{SessionState, opened, effect_in, after, told_of, told_of_both, Told}
 use Rattle.mix_lines.specs.Lines.{lines, lines-nil}
 use Rattle.mix_run.specs.Output.{Outcome, Meets, outcome_of, replies_of, said_of, outcome_of_script, bundle_output, output, list_output, list_outcome, status_of, TooLong, Ended}
 use Rattle.mix_stream.specs.Stream.{AppendsFront, ConsumesAtMost}
+use Rattle.mix_stream.specs.declared.counted.Failed.{Failed}
 use Rattle.mix_files.specs.Bundle.{cut_of}
-use Rattle.mix_run.specs.UnitsRead.{GivesUnits}
-use Rattle.mixal_asm.specs.Assembly.{assembly}
-use Rattle.mixal_asm.specs.Program.{ProgramValue}
-use Rattle.mixal_asm.specs.declared.fault.AsmFault.{AsmFault}
-use Rattle.mix_machine.specs.units.Units.{UnitsState}
-use Rattle.mix_machine.specs.units.deck.Deck.{deck_of}
-use Rattle.mix_run.specs.Fault.{fault_of_read}
-use Rattle.mix_machine.specs.declared.units.deck_fault.DeckFault.{DeckFault}
-use Rattle.mix_run.specs.declared.fault.ToolFault.{ToolFault}
+use Rattle.mix_run.specs.Prelude.{GivesUnits, fault_of_read, ToolFault}
+use Rattle.mixal_asm.specs.Prelude.{assembly, ProgramValue, AsmFault}
+use Rattle.mix_machine.specs.Prelude.{UnitsState, deck_of, DeckFault}
 use Rattle.mix_run.specs.declared.fault.ToolFault.TheVariants as faults
 use Rattle.mix_refused.specs.declared.refused.Refused.{Refused as Refusal}
-use Rattle.mix_stream.specs.declared.counted.Failed.{Failed}
 use Rattle.mix_refused.specs.declared.refused.Refused.TheVariants as reads
 use Rattle.mix_run.specs.law.Truncation.{limited-take, deck_of-take, assembly-take}
-use Rattle.mix_session.specs.Reply.{told_of_both}
-use Rattle.mix_session.specs.declared.reply.Told.{Told}
 use Rattle.mix_session.specs.declared.reply.Told.TheVariants.{Accepted, Refused}
 use Rattle.mix_run.proofs.Written.{Appends-then, Appends-same, Appends-nothing, AppendsFront-after}
 

@@ -4,11 +4,9 @@ use Rattle.std.proofs.lemmas.Bool.{le-ltb, lt-ltb}
 use Rattle.mix_lines.specs.Lines.{lines}
 use Rattle.mix_refused.specs.declared.refused.Refused.{Refused}
 use Rattle.mix_refused.specs.declared.refused.Refused.TheVariants as refused
-use Rattle.mix_run.specs.Opening.{GivesText}
-use Rattle.mix_run.specs.Output.{max_script_bytes}
+use Rattle.mix_run.specs.Prelude.{GivesText, max_script_bytes, Reason}
 use Rattle.mix_run.specs.Sources.{lines_of}
 use Rattle.mix_run.specs.declared.opener.Unread.{Unread}
-use Rattle.mix_run.specs.declared.reason.Reason.{Reason}
 
 length-taken : (n : ℕ) (xs : List ℕ) → length (take n xs) ≤ length xs
 length-taken zero xs = omega arith

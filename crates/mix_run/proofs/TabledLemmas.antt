@@ -3,23 +3,13 @@ use Rattle.std.proofs.Common.{◌≡◌, ◌≤◌, ◌+◌, ℕ, zero, suc, Boo
 use Rattle.std.proofs.lemmas.List.{append-nil}
 use Rattle.std.specs.Io.KnownBytes.{Appends}
 use Rattle.mixal_asm.specs.Program.{ProgramValue}
-use Rattle.mix_machine.specs.Do.{does, is_halt_next}
-use Rattle.mix_machine.specs.World.{WorldState}
-use Rattle.mix_machine.specs.declared.fault.MixFault.{MixFault}
-use Rattle.mix_machine.specs.declared.old.Change.TheVariants.{Step}
-use Rattle.mix_machine.specs.declared.part.Part.{Part}
+use Rattle.mix_machine.specs.Prelude.{does, is_halt_next, WorldState, MixFault, Step, Part}
 use Rattle.mix_session.specs.Change.{change_text}
 use Rattle.mix_stream.specs.Stream.{AppendsFront}
-use Rattle.mix_run.specs.Print.{counted}
+use Rattle.mix_run.specs.Prelude.{counted, FieldValue, footer_text, header_text, row_text, rows_text, table_text, Writes, ToolFault, RunEnd, Stepped, TableFormat}
 use Rattle.mix_run.specs.StepTable.{Adds, StepTells, Tabled, after_rows, columns_of, names_of, rows_made, rows_of, still_first, stopped, tabled, tabled_run, trace_row}
-use Rattle.mix_run.specs.Table.{FieldValue, footer_text, header_text, row_text, rows_text, table_text}
-use Rattle.mix_run.specs.Writes.{Writes}
-use Rattle.mix_run.specs.declared.fault.ToolFault.{ToolFault}
-use Rattle.mix_run.specs.declared.print.steps.RunEnd.{RunEnd}
 use Rattle.mix_run.specs.declared.print.steps.RunEnd.TheVariants.{Halted, Faulted, Conflicting, UsedUp}
-use Rattle.mix_run.specs.declared.print.steps.Stepped.{Stepped}
 use Rattle.mix_run.specs.declared.print.tabled.StepTable.{StepTable}
-use Rattle.mix_run.specs.declared.table.TableFormat.{TableFormat}
 use Rattle.mix_run.proofs.Written.{Appends-same, Appends-then, AppendsFront-after}
 
 -- ---- rows, and then others

@@ -8,21 +8,15 @@ use Rattle.std.specs.Io.KnownBytes.{Appends, Consumes, IsAtEnd, Keeps}
 use Rattle.mix_lines.specs.Lines.{is_line_feed, lines, lines-nil, strip_line_feed, text_of_line, whole_lines, words}
 use Rattle.std.specs.Str.Lines.{strip_carriage_return}
 use Rattle.std.proofs.lemmas.Bool.{lt-ltb, or_parts}
-use Rattle.mix_session.specs.Session.{SessionState, effect_in}
-use Rattle.mix_session.specs.Command.{after, reply_of}
-use Rattle.mix_session.specs.Answer.{told_of}
-use Rattle.mix_session.specs.Reply.{told_of_both}
-use Rattle.mix_session.specs.declared.reply.Told.{Told}
+use Rattle.mix_session.specs.Prelude.{SessionState, effect_in, after, reply_of, told_of, told_of_both, Told}
 use Rattle.mix_stream.specs.Stream.{AppendsFront}
-use Rattle.mix_run.specs.Output.{replies}
+use Rattle.mix_run.specs.Prelude.{replies, is_too_long, is_whole, max_line_bytes, Talker}
 use Rattle.mix_run.specs.Opening.{Saved, noted, noted_one}
 use Rattle.mix_run.specs.Recall.{RecallState, meant, meant_by, read_as, recalled, recalled_by}
 use Rattle.mix_run.specs.Asked.{after_lines, answers, asked, is_over, is_end, is_quit, recalled_all}
-use Rattle.mix_run.specs.Talk.{is_too_long, is_whole, max_line_bytes}
 use Rattle.mix_person.specs.Person.{kind_of}
 use Rattle.mix_person.specs.declared.person.Line.{Line}
 use Rattle.mix_person.specs.declared.person.Line.TheVariants as line_kind
-use Rattle.mix_run.specs.declared.talk.aside.Talker.{Talker}
 use Rattle.mix_run.specs.declared.talk.aside.Talker.TheVariants as talkers
 use Rattle.mix_run.proofs.RunLemmas.{both-accepted, both-assoc}
 use Rattle.mix_run.proofs.Written.{Appends-then, Appends-same, AppendsFront-after}

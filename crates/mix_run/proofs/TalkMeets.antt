@@ -2,40 +2,24 @@
 use Rattle.std.proofs.Common.{◌≡◌, ◌∙◌, ◌+◌, ◌<◌, ◌≤◌, ℕ, false, List, [], ◌∷◌, ◌++◌, length, Option, Some, Result, Ok, Err, refl, sym, ap, ap₂, subst, arith, inr}
 use Rattle.std.proofs.lemmas.Bool.{le-ltb}
 use Rattle.mix_lines.specs.Lines.{lines}
-use Rattle.mixal_asm.specs.Assembly.{assembly}
-use Rattle.mixal_asm.specs.Program.{ProgramValue}
-use Rattle.mixal_asm.specs.declared.fault.AsmFault.{AsmFault}
-use Rattle.mix_machine.specs.units.Units.{UnitsState}
-use Rattle.mix_machine.specs.declared.units.deck_fault.DeckFault.{DeckFault}
+use Rattle.mixal_asm.specs.Prelude.{assembly, ProgramValue, AsmFault}
+use Rattle.mix_machine.specs.Prelude.{UnitsState, DeckFault, deck_of}
 use Rattle.mix_refused.specs.declared.refused.Refused.{Refused as Refusal}
 use Rattle.mix_refused.specs.declared.refused.Refused.TheVariants as reads
 use Rattle.mix_stream.specs.declared.counted.Failed.{Failed}
 use Rattle.mix_stream.specs.Stream.{AppendsFront, CountsFailure}
-use Rattle.mix_session.specs.Session.{SessionState, effect_in}
-use Rattle.mix_session.specs.Command.{after, reply_of}
-use Rattle.mix_session.specs.Answer.{told_of}
-use Rattle.mix_session.specs.Reply.{told_of_both}
+use Rattle.mix_session.specs.Prelude.{SessionState, effect_in, after, reply_of, told_of, told_of_both, Told}
 use Rattle.std.proofs.lemmas.List.{append-nil}
-use Rattle.mix_run.specs.Fault.{fault_of_read}
-use Rattle.mix_session.specs.declared.reply.Told.{Told}
-use Rattle.mix_run.specs.declared.fault.ToolFault.{ToolFault}
+use Rattle.mix_run.specs.Prelude.{fault_of_read, ToolFault, begun, talk_of, GivesUnits, Talker, Moment, Program, Files, Saved, noted}
 use Rattle.mix_run.specs.declared.fault.ToolFault.TheVariants as faults
 use Rattle.mix_run.specs.Output.{DeckRefused, Ended, Meets, Replies, max_script_bytes, outcome_of, outcome_of_script, refusal_of, replies, status_of}
 use Rattle.mix_run.specs.Talk.{AnswersRead, Talks, TalksWith, status_from}
-use Rattle.mix_run.specs.Reload.{begun}
-use Rattle.mix_run.specs.Stretch.{talk_of}
-use Rattle.mix_run.specs.UnitsRead.{GivesUnits}
-use Rattle.mix_run.specs.declared.talk.aside.Talker.{Talker}
-use Rattle.mix_run.specs.declared.talk.moment.Moment.{Moment}
-use Rattle.mix_run.specs.declared.talk.aside.Talker.TheVariants.{Program}
 use Rattle.mix_run.proofs.RunLemmas.{Keeps-same, Meets-unread, both-accepted}
 use Rattle.std.specs.Prelude.{OnOk}
 use Rattle.mix_run.specs.Bundle.{OriginValue, origin_of}
-use Rattle.mix_run.specs.Opening.{Files, Saved, noted}
 use Rattle.mix_run.specs.Sources.{Knows, reads_file}
 use Rattle.mix_run.specs.declared.reason.Reason.TheVariants as reason
 use Rattle.std.specs.List.{list_any}
-use Rattle.mix_machine.specs.units.deck.Deck.{deck_of}
 use Rattle.mix_run.proofs.Written.{Appends-nothing, Appends-same}
 
 -- no line was read yet

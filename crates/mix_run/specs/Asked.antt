@@ -2,12 +2,11 @@
 use Rattle.std.specs.Prelude.{Bool, true, false, ℕ, List, [], ◌∷◌, ◌++◌, if◌then◌else◌}
 use Rattle.std.specs.List.{list_any}
 use Rattle.mix_lines.specs.Lines.{words}
-use Rattle.mix_session.specs.Session.{SessionState, effect_in}
-use Rattle.mix_session.specs.Command.{after}
+use Rattle.mix_session.specs.Prelude.{SessionState, effect_in, after}
 use Rattle.mix_run.specs.Output.{Replies, replies}
 use Rattle.mix_person.specs.Person.{kind_of}
-use Rattle.mix_run.specs.Recall.{RecallState, meant, recalled}
 use Rattle.mix_person.specs.declared.person.Line.{Line}
+use Rattle.mix_run.specs.Recall.{RecallState, meant, recalled}
 use Rattle.mix_person.specs.declared.person.Line.TheVariants as line_kind
 use Rattle.mix_run.specs.declared.talk.aside.Talker.{Talker}
 use Rattle.mix_run.specs.declared.talk.aside.Talker.TheVariants.{Program, Person}

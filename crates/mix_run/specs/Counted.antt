@@ -2,19 +2,10 @@
 use Rattle.std.specs.Prelude.{ℕ, zero, suc, ◌+◌, ◌==◌, List, [], ◌∷◌, ◌++◌, codes, Option, Some, None, Result, Ok, Err, if◌then◌else◌, min}
 use Rattle.mix_formula.specs.Names.{NameValue}
 use Rattle.mixal_asm.specs.Program.{ProgramValue}
-use Rattle.mix_session.specs.Command.{Effect, after, effect_of_run}
-use Rattle.mix_session.specs.Counts.{tally_at}
-use Rattle.mix_session.specs.Session.{SessionState}
-use Rattle.mix_session.specs.Stops.{no_stops}
-use Rattle.mix_session.specs.Timeline.{Timeline, world_of}
-use Rattle.mix_session.specs.declared.answer.Answer.{Answer}
+use Rattle.mix_session.specs.Prelude.{Effect, after, effect_of_run, tally_at, SessionState, no_stops, Timeline, world_of, Answer, Refusal, BadArgument, End, Tally}
 use Rattle.mix_session.specs.declared.answer.Answer.TheVariants as answers
 use Rattle.mix_session.specs.declared.command.stops.Way.TheVariants as way
-use Rattle.mix_session.specs.declared.fault.Refusal.{Refusal}
-use Rattle.mix_session.specs.declared.fault.Refusal.TheVariants.{BadArgument}
-use Rattle.mix_session.specs.declared.reply.End.{End}
 use Rattle.mix_session.specs.declared.reply.End.TheVariants as ends
-use Rattle.mix_session.specs.declared.tally.Tally.{Tally}
 use Rattle.mix_run.specs.Formulas.{formulas_table, given_by}
 use Rattle.mix_run.specs.Print.{Run, line_at}
 use Rattle.mix_run.specs.Table.{FieldValue, Text, Missing, table_text, unsigned}

@@ -3,13 +3,11 @@ use Rattle.std.specs.Prelude.{ℕ, ℤ, List, [], ◌∷◌, codes, map, Option,
 use Rattle.std.specs.List.{slice_split}
 use Rattle.std.specs.Str.{is_utf8}
 use Rattle.mix_formula.specs.Formula.{value_of}
-use Rattle.mix_formula.specs.Found.{all_values, is_count}
-use Rattle.mix_formula.specs.Names.{NameValue}
+use Rattle.mix_formula.specs.Prelude.{all_values, is_count, NameValue}
 use Rattle.mix_formula.specs.Rows.{RowValue, formula_of}
 use Rattle.mix_formula.specs.declared.value.Value.{Value}
 use Rattle.mix_formula.specs.declared.value.Value.TheVariants as told
-use Rattle.mix_session.specs.Counts.{tally_at}
-use Rattle.mix_session.specs.Timeline.{Timeline}
+use Rattle.mix_session.specs.Prelude.{tally_at, Timeline}
 use Rattle.mix_views.specs.Analysis.{given_in, rows_below}
 use Rattle.mixal_asm.specs.Program.{ProgramValue}
 use Rattle.mixal_text.specs.Part.{is_comma}

@@ -11,6 +11,7 @@ pub mod Keep
 pub mod Opening
 pub mod Output
 pub mod Points
+pub mod Prelude
 pub mod Print
 pub mod PrintOutput
 pub mod PrintSteps

@@ -1,25 +1,15 @@
 -- What the tool writes and the status with which it ends: a function of the source, the deck and the script.
 use Rattle.std.specs.Prelude.{◌≡◌, ◌≢◌, ◌≤◌, ℕ, Bool, true, false, Option, List, [], ◌∷◌, ◌++◌, Result, Ok, Err, length, nat_lt, if◌then◌else◌}
 use Rattle.std.specs.Io.KnownBytes.{Appends, Keeps}
-use Rattle.mixal_asm.specs.Assembly.{assembly}
-use Rattle.mixal_asm.specs.Fault.{asm_fault_line}
-use Rattle.mixal_asm.specs.Listing.{listing}
-use Rattle.mixal_asm.specs.Program.{ProgramValue}
-use Rattle.mixal_asm.specs.declared.fault.AsmFault.{AsmFault}
-use Rattle.mix_session.specs.Session.{SessionState, opened, effect_in}
-use Rattle.mix_session.specs.Command.{after, reply_of}
-use Rattle.mix_session.specs.Answer.{told_of}
+use Rattle.mixal_asm.specs.Prelude.{assembly, asm_fault_line, listing, ProgramValue, AsmFault}
+use Rattle.mix_session.specs.Prelude.{SessionState, opened, effect_in, after, reply_of, told_of, told_of_both, Told}
 pub use Rattle.mix_files.specs.Bundle.{max_bundle_bytes}
 use Rattle.mix_files.specs.Bundle.{cut_of}
-use Rattle.mix_machine.specs.units.Units.{UnitsState}
-use Rattle.mix_machine.specs.units.deck.Deck.{deck_of}
+use Rattle.mix_machine.specs.Prelude.{UnitsState, deck_of, DeckFault}
 use Rattle.mix_lines.specs.Lines.{lines}
 use Rattle.mix_stream.specs.Stream.{AppendsFront}
-use Rattle.mix_session.specs.Reply.{told_of_both}
-use Rattle.mix_machine.specs.declared.units.deck_fault.DeckFault.{DeckFault}
 use Rattle.mix_run.specs.declared.fault.ToolFault.{ToolFault}
 use Rattle.mix_run.specs.declared.fault.ToolFault.TheVariants as faults
-use Rattle.mix_session.specs.declared.reply.Told.{Told}
 use Rattle.mix_session.specs.declared.reply.Told.TheVariants.{Accepted, Refused}
 
 -- how many bytes a script may have

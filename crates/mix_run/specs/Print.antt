@@ -1,21 +1,11 @@
 -- What a run of a program prints: the rows that its steps write to the card punch, the printer, the typewriter and the paper tape; and the lines of
 -- its steps, where it is traced, and the registers at its end, where they are asked for. And which of its steps conflict with a transfer under way, before the first of which a strict run ends.
 use Rattle.std.specs.Prelude.{ℕ, zero, suc, Bool, ◌+◌, ◌==◌, nat_lt, List, [], ◌∷◌, ◌++◌, length, drop, reverse, flat_map, Option, Some, None, option_map, Result, Ok, Err, if◌then◌else◌}
-use Rattle.mixal_asm.specs.PassOne.{SourceValue, Line, OfLiteral, OfName}
-use Rattle.mixal_asm.specs.Program.{ProgramValue}
-use Rattle.mixal_asm.specs.Source.{source_at}
+use Rattle.mixal_asm.specs.Prelude.{SourceValue, Line, OfLiteral, OfName, ProgramValue, source_at}
 use Rattle.mix_word.specs.Word.{WordValue}
-use Rattle.mix_machine.specs.Do.{does, is_halt_next}
-use Rattle.mix_machine.specs.Transfers.{TransfersState, conflict_of, no_transfers, transfers_after}
-use Rattle.mix_machine.specs.World.{WorldState, unit_at}
-use Rattle.mix_machine.specs.units.Row.{RowState}
-use Rattle.mix_machine.specs.units.Unit.{UnitState}
-use Rattle.mix_machine.specs.declared.fault.MixFault.{MixFault}
-use Rattle.mix_machine.specs.declared.old.Change.TheVariants.{Step}
-use Rattle.mix_machine.specs.declared.transfers.Conflict.{Conflict}
-use Rattle.mix_session.specs.Change.{change_line}
+use Rattle.mix_machine.specs.Prelude.{does, is_halt_next, TransfersState, conflict_of, no_transfers, transfers_after, WorldState, unit_at, RowState, UnitState, MixFault, Step, Conflict}
+use Rattle.mix_session.specs.Prelude.{change_line, characters_text}
 use Rattle.mix_session.specs.Show.{registers_text}
-use Rattle.mix_session.specs.ShowUnit.{characters_text}
 use Rattle.mix_run.specs.declared.print.options.PrintOptions.{PrintOptions}
 use Rattle.mix_run.specs.declared.print.options.UnitSet.{UnitSet}
 use Rattle.mix_run.specs.declared.print.steps.RunEnd.{RunEnd}

@@ -5,8 +5,8 @@ use Rattle.mix_lines.specs.Lines.{lines, words}
 use Rattle.mix_run.specs.Opening.{Files}
 use Rattle.mix_run.specs.Output.{max_script_bytes}
 use Rattle.mix_person.specs.Person.{kind_of, name_in}
-use Rattle.mix_run.specs.declared.reason.Reason.{Reason}
 use Rattle.mix_person.specs.declared.person.Line.{Line}
+use Rattle.mix_run.specs.declared.reason.Reason.{Reason}
 use Rattle.mix_person.specs.declared.person.Line.TheVariants as line_kind
 use Rattle.mix_run.specs.declared.talk.aside.Talker.{Talker}
 use Rattle.mix_run.specs.declared.talk.aside.Talker.TheVariants.{Program, Person}

@@ -4,9 +4,7 @@ ghost use Rattle.std.specs.Prelude.{◌≡◌, ◌<◌, ◌+◌, ◌-◌, ◌^�
 ghost use Rattle.mix_check.specs.Report.{Adds, Report, has_faults};
 ghost use Rattle.mix_stream.specs.Stream.{ConsumesAtMost, CountsFailure};
 ghost use Rattle.mixal_asm.specs.Assembly.{max_source_bytes};
-ghost use Rattle.mix_run.specs.Check.{Checks, Named, Reported};
-ghost use Rattle.mix_run.specs.Fault.{IsMemoryOrRead};
-ghost use Rattle.mix_run.specs.Output.{IsStatus, Meets};
+ghost use Rattle.mix_run.specs.Prelude.{Checks, Named, Reported, IsMemoryOrRead, IsStatus, Meets};
 
 use crate::fault::ToolFault;
 use crate::statuses::{DONE, SOURCE_REFUSED};

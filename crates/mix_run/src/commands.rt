@@ -3,9 +3,7 @@
 ghost use Rattle.std.specs.Prelude.{◌≡◌, ◌<◌, ◌-◌, ◌^◌, Err, IfErr, IfOk, OnOk};
 ghost use Rattle.std.specs.Io.KnownBytes.{Appends};
 ghost use Rattle.mix_lines.specs.Lines.{lines};
-ghost use Rattle.mix_session.specs.Answer.{told_of};
-ghost use Rattle.mix_session.specs.Command.{after, reply_of};
-ghost use Rattle.mix_session.specs.Session.{effect_in};
+ghost use Rattle.mix_session.specs.Prelude.{told_of, after, reply_of, effect_in};
 ghost use Rattle.mix_run.specs.Fault.{IsMemoryOrWrite};
 ghost use Rattle.mix_run.specs.Output.{echo_of, replies_of, said_of};
 ghost use Rattle.mix_stream.specs.Stream.{AppendsFront, CountsFailure};

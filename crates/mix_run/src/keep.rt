@@ -1,7 +1,6 @@
 //! What a run leaves in the units, as a deck.
 ghost use Rattle.std.specs.Prelude.{◌≡◌, ◌++◌, ◌<◌, [], ◌∷◌, drop, flat_map, length, slice_index_or, string_bytes, IfOk, OnOk};
-ghost use Rattle.mix_word.specs.Uses.{unit_count};
-ghost use Rattle.mix_word.specs.Text.{sign_text};
+ghost use Rattle.mix_word.specs.Prelude.{unit_count, sign_text};
 ghost use Rattle.mix_session.specs.ShowUnit.{block_text, block_word_text, deck_word_text, pair_text, text_after};
 ghost use Rattle.mix_run.specs.Keep.{first_kept, header_text, is_kept, kept_at, kept_block, kept_deck, kept_if, kept_part, kept_unit};
 

@@ -5,8 +5,7 @@ ghost use Rattle.std.specs.Io.KnownBytes.{Keeps};
 ghost use Rattle.mix_stream.specs.Stream.{ConsumesAtMost, CountsFailure};
 ghost use Rattle.mixal_asm.specs.Assembly.{max_source_bytes};
 ghost use Rattle.mixal_asm.specs.Listing.{listing};
-ghost use Rattle.mix_run.specs.Fault.{IsMemoryOrWrite};
-ghost use Rattle.mix_run.specs.Output.{Meets, Ended, IsStatus, list_output};
+ghost use Rattle.mix_run.specs.Prelude.{IsMemoryOrWrite, Meets, Ended, IsStatus, list_output};
 
 use crate::fault::ToolFault;
 use crate::statuses::{DONE, refuse_source};

@@ -45,18 +45,22 @@ fn drawing_of(
     )?;
     text.extend_from_slice(head.as_bytes())?;
     if rows < found {
-        let left_out =
-            format!(in alloc; "These are the first {rows} of {found} instructions.\n")?;
+        let left_out = format!(in alloc; "These are the first {rows} of {found} instructions.\n")?;
         text.extend_from_slice(left_out.as_bytes())?;
     }
     for row in &map.rows {
-        let (name, times) = (name_of(alloc, program, row)?, counted(alloc, row.times, "time")?);
+        let (name, times) = (
+            name_of(alloc, program, row)?,
+            counted(alloc, row.times, "time")?,
+        );
         let before = match line_at(program, row.place) {
             Some(_) => "Line",
             None => "Location",
         };
         let (from, until) = (bound_of(total, row.from) + 1, bound_of(total, row.to));
-        let told = format!(in alloc; "{before} {name}: {times}, between changes {from} and {until}.\n")?;
+        let told = format!(in alloc;
+            "{before} {name}: {times}, between changes {from} and {until}.\n"
+        )?;
         text.extend_from_slice(told.as_bytes())?;
     }
     text.extend_from_slice(b"</desc>\n")?;

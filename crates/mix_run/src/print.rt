@@ -1,7 +1,6 @@
 //! A program run to its end, and what it prints.
 ghost use Rattle.std.specs.Prelude.{◌≡◌, ◌<◌, ◌-◌, ◌^◌, ◌||◌, ℕ, List, is_some};
-ghost use Rattle.mix_run.specs.Drawn.{DrawnRun};
-ghost use Rattle.mix_run.specs.PrintOutput.{Leaves, outcome_of_run};
+ghost use Rattle.mix_run.specs.Prelude.{DrawnRun, Leaves, outcome_of_run};
 
 mod counts;
 mod drawn;

@@ -2,8 +2,7 @@
 
 ghost use Rattle.std.specs.Prelude.{◌≡◌, ◌<◌, ◌-◌, ◌^◌, ◌++◌, [], ◌∷◌, Err, IfErr, IfOk, OnOk, string_bytes};
 ghost use Rattle.mixal_asm.specs.Fault.{asm_fault_line};
-ghost use Rattle.mix_run.specs.Fault.{IsMemoryOrWrite};
-ghost use Rattle.mix_run.specs.Output.{IsStatus, Meets, refusal_of, status_of};
+ghost use Rattle.mix_run.specs.Prelude.{IsMemoryOrWrite, IsStatus, Meets, refusal_of, status_of};
 ghost use Rattle.mix_stream.specs.Stream.{CountsFailure};
 
 use crate::fault::ToolFault;

@@ -1,22 +1,11 @@
 //! A talk with the program of a source: each line is a command, which is done and answered before the next is read.
 
 ghost use Rattle.std.specs.Prelude.{◌≡◌, ◌≢◌, ◌⊎◌, ◌<◌, ◌≤◌, ◌+◌, ◌-◌, ◌^◌, ℕ, List, Some, Ok, Err, IfOk, OnOk, drop, false, length, true};
-ghost use Rattle.mixal_asm.specs.declared.fault.AsmFault.{AsmFault};
-ghost use Rattle.mix_machine.specs.declared.units.deck_fault.DeckFault.{DeckFault};
-ghost use Rattle.mixal_asm.specs.Assembly.{assembly};
-ghost use Rattle.mix_machine.specs.units.deck.Deck.{deck_of, max_deck_bytes};
-ghost use Rattle.mix_run.specs.Debug.{debug_output, origin_given};
-ghost use Rattle.mix_run.specs.Output.{IsStatus, Meets, max_bundle_bytes, max_script_bytes};
-ghost use Rattle.mix_run.specs.PrintOutput.{parts_of};
-ghost use Rattle.mix_run.specs.UnitsRead.{deck_given};
-ghost use Rattle.mix_run.specs.Opening.{Files, noted};
-ghost use Rattle.mix_run.specs.Reload.{begun};
-ghost use Rattle.mix_run.specs.Sources.{Knows};
-ghost use Rattle.mix_run.specs.Stretch.{talk_of};
+ghost use Rattle.mixal_asm.specs.Prelude.{AsmFault, assembly, ProgramValue};
+ghost use Rattle.mix_machine.specs.Prelude.{DeckFault, deck_of, max_deck_bytes, UnitsState};
+ghost use Rattle.mix_run.specs.Prelude.{debug_output, origin_given, IsStatus, Meets, max_bundle_bytes, max_script_bytes, parts_of, deck_given, Files, noted, begun, Knows, talk_of};
 ghost use Rattle.mix_run.specs.Talk.{TalksFrom, is_too_long};
 ghost use Rattle.mix_lines.specs.Lines.{lines};
-ghost use Rattle.mix_machine.specs.units.Units.{UnitsState};
-ghost use Rattle.mixal_asm.specs.Program.{ProgramValue};
 ghost use Rattle.std.specs.List.{list_any};
 ghost use Rattle.mix_stream.specs.Stream.{ConsumesAtMost, CountsFailure};
 

@@ -17,7 +17,8 @@ const HEAD: &[u8] = b"{rlllrp{0.4\\linewidth}}\n\\toprule\n\
 line & LOC & OP & ADDRESS & times & remarks \\\\\n\\midrule\n";
 
 // A letter that the fonts of pdfTeX lack is printed as ?; other engines have letters of all scripts.
-const ANY_SCRIPT: &[u8] = b"\\providecommand\\inanyscript[1]{\\begingroup\\def\\TextSymbolUnavailable\
+const ANY_SCRIPT: &[u8] =
+    b"\\providecommand\\inanyscript[1]{\\begingroup\\def\\TextSymbolUnavailable\
 {\\def\\TextSymbolUnavailable####1{?}\\fontencoding{T1}\\selectfont}\
 \\expandafter\\def\\csname UTFviii@undefined@err\\endcsname##1{?}#1\\endgroup}\n";
 

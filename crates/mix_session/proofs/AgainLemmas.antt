@@ -2,13 +2,7 @@
 use Rattle.std.proofs.Common.{◌≡◌, ◌<◌, ◌≤◌, ◌∙◌, ℕ, zero, suc, [], Option, None, Some, refl, ap, sym}
 use Rattle.std.proofs.Math.Path.{fun_ext}
 use Rattle.std.specs.Option.{is_some, unwrap_or}
-use Rattle.mix_session.specs.Command.{Effect, after, effect_of_run, count_of_run, end_at, end_of_last, least_below}
-use Rattle.mix_session.specs.Stops.{StopsState}
-use Rattle.mix_session.specs.Timeline.{Timeline, moved, moved_once}
-use Rattle.mix_session.specs.declared.answer.Answer.TheVariants.{Ran}
-use Rattle.mix_session.specs.declared.command.stops.Way.{Way}
-use Rattle.mix_session.specs.declared.command.stops.Way.TheVariants.{New, Again}
-use Rattle.mix_session.specs.declared.reply.End.{End}
+use Rattle.mix_session.specs.Prelude.{Effect, after, effect_of_run, count_of_run, end_at, end_of_last, least_below, StopsState, Timeline, moved, moved_once, Ran, Way, New, Again, End}
 use Rattle.mix_session.specs.declared.reply.End.TheVariants.{Limit}
 use Rattle.mix_session.proofs.CommandLemmas.{run-effect}
 

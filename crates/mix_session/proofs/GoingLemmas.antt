@@ -3,23 +3,10 @@ use Rattle.std.proofs.Common.{◌≡◌, ◌+◌, ◌-◌, ◌<◌, ◌≤◌, �
 use Rattle.std.specs.Option.{IfSome, option_map, option_or}
 use Rattle.std.specs.Result.{IsOk}
 use Rattle.undo_core.specs.Replay.{replay}
-use Rattle.mix_machine.specs.World.{WorldState}
-use Rattle.mix_machine.specs.Do.{does, is_plain_next}
-use Rattle.mix_machine.specs.declared.old.Change.TheVariants.{Step}
-use Rattle.mix_machine.specs.declared.part.Mark.{Mark}
-use Rattle.mix_session.specs.BrokenOff.{IsBefore}
-use Rattle.mix_session.specs.Command.{effect_of_run, end_of_last, end_at, end_there, fault_end, is_halt_done}
-use Rattle.mix_session.specs.Known.{KnownState, Knows, LooksOn, has_conflict}
+use Rattle.mix_machine.specs.Prelude.{WorldState, does, is_plain_next, Step, Mark, ends_at, Many}
+use Rattle.mix_session.specs.Prelude.{IsBefore, effect_of_run, end_of_last, end_at, end_there, fault_end, is_halt_done, KnownState, Knows, LooksOn, has_conflict, StopsState, Timeline, world_of, with_change, moved, Way, New, Again, Back, End, Until}
 use Rattle.mix_session.specs.Marks.{AreMarks, HasMoved, IsMove, end_by_marks, first_met}
-use Rattle.mix_machine.specs.Many.{ends_at}
 use Rattle.mix_session.specs.Plain.{AllowsMany, ArePlain, AreSteps, HasEnd, IsLeft, LeavesOff}
-use Rattle.mix_session.specs.Stops.{StopsState}
-use Rattle.mix_session.specs.Timeline.{Timeline, world_of, with_change, moved}
-use Rattle.mix_machine.specs.declared.many.Many.{Many}
-use Rattle.mix_session.specs.declared.command.stops.Way.{Way}
-use Rattle.mix_session.specs.declared.command.stops.Way.TheVariants.{New, Again, Back}
-use Rattle.mix_session.specs.declared.reply.End.{End}
-use Rattle.mix_session.specs.declared.reply.End.TheVariants.{Until}
 use Rattle.mix_session.proofs.CommandLemmas.{before-run, fault_end-ok, moved-next, moved_once-first, none_before-next}
 use Rattle.mix_session.proofs.ConditionLemmas.{AlteredLaw}
 use Rattle.mix_session.proofs.MarkLemmas.{AreMarks-after, WorldsLaw, first_met-later, marks_in}

@@ -7,21 +7,9 @@ use Rattle.std.proofs.Math.Seq.{take-append_seam, get_or-append_seam}
 use Rattle.std.specs.Result.{IfOk}
 use Rattle.mix_refused.specs.declared.refused.Memory.{Memory}
 use Rattle.undo_core.specs.Replay.{replay}
-use Rattle.mix_machine.specs.World.{WorldState}
-use Rattle.mix_machine.specs.Do.{does}
-use Rattle.mix_machine.specs.Transfers.{TransfersState, transfers_after, conflict_of}
-use Rattle.mix_machine.specs.declared.old.Change.{Change}
-use Rattle.mix_machine.specs.declared.old.Change.TheVariants.{Step}
-use Rattle.mix_machine.specs.declared.transfers.Conflict.{Conflict}
-use Rattle.mix_session.specs.Change.{world_at, change_at}
-use Rattle.mix_session.specs.Command.{least_below, move_conflicts, end_of_more}
-use Rattle.mix_session.specs.Condition.{is_conflict}
-use Rattle.mix_session.specs.Conflicts.{transfers_at, conflict_at, last_conflicts}
+use Rattle.mix_machine.specs.Prelude.{WorldState, does, TransfersState, transfers_after, conflict_of, Change, Step, Conflict}
+use Rattle.mix_session.specs.Prelude.{world_at, change_at, least_below, move_conflicts, end_of_more, is_conflict, transfers_at, conflict_at, last_conflicts, Timeline, world_of, back_by, forth_by, with_change, begins_with_step, moved_once, Way, New, Again, Back, Condition}
 use Rattle.mix_session.specs.Known.{KnownState, has_conflict, IsLast, IsKnown, Knows, LooksAt, LooksOn, Tells}
-use Rattle.mix_session.specs.Timeline.{Timeline, world_of, back_by, forth_by, with_change, begins_with_step, moved_once}
-use Rattle.mix_session.specs.declared.command.stops.Way.{Way}
-use Rattle.mix_session.specs.declared.command.stops.Way.TheVariants.{New, Again, Back}
-use Rattle.mix_session.specs.declared.condition.Condition.{Condition}
 use Rattle.mix_session.specs.declared.reply.End.TheVariants.{Start}
 use Rattle.mix_session.proofs.CommandLemmas.{least_below-is}
 use Rattle.mix_session.proofs.ConflictLemmas.{conflict_at-is, transfers_at-next}

@@ -8,18 +8,12 @@ use Rattle.std.specs.Bool.{then_some}
 use Rattle.std.specs.List.{filter, list_any, range_with_len}
 use Rattle.std.specs.Option.{option_and_then}
 use Rattle.undo_core.specs.Replay.{put_back}
-use Rattle.mix_machine.specs.World.{WorldState, cell_of, has_break, unit_at}
-use Rattle.mix_machine.specs.Write.{put_value, set_value, fits}
-use Rattle.mix_machine.specs.Part.{mark_of, mark_given, mark_before}
-use Rattle.mix_machine.specs.declared.old.Old.{Old}
+use Rattle.mix_machine.specs.Prelude.{WorldState, cell_of, has_break, unit_at, put_value, set_value, fits, mark_of, mark_given, mark_before, Old, Part, Mark}
 use Rattle.mix_machine.specs.declared.old.Old.TheVariants as old
-use Rattle.mix_machine.specs.declared.part.Part.{Part}
 use Rattle.mix_machine.specs.declared.part.Part.TheVariants.{Cell, Unit as Device}
-use Rattle.mix_machine.specs.declared.part.Mark.{Mark}
-use Rattle.mix_session.specs.Altered.{count_of, part_of, is_altered}
+use Rattle.mix_session.specs.Prelude.{count_of, part_of, is_altered, Cells, Breaks, Units}
 use Rattle.mix_session.specs.Named.{is_of, is_number, IsOutside, Covers, HoldsAll, Leads}
 use Rattle.mix_session.specs.declared.altered.Kind.{Kind}
-use Rattle.mix_session.specs.declared.altered.Kind.TheVariants.{Cells, Breaks, Units}
 use Rattle.mix_session.specs.declared.altered.near.Numbers.{Numbers}
 use Rattle.mix_session.specs.declared.altered.near.Named.{Named}
 use Rattle.mix_session.proofs.AlteredLemmas.{filter-range}

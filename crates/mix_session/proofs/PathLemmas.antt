@@ -5,10 +5,9 @@ use Rattle.std.proofs.lemmas.List.{get_or-set_same, get_or-set_other, get_or-rep
 use Rattle.std.proofs.lemmas.Bool.Decides.{nat_tests}
 use Rattle.std.proofs.Math.Nat.{div-lt_iff_lt-mul, mul-le-mul_right}
 use Rattle.mix_machine.specs.declared.old.Change.{Change}
-use Rattle.mix_session.specs.Change.{world_at}
+use Rattle.mix_session.specs.Prelude.{world_at, Timeline}
 use Rattle.mix_session.specs.Counts.{is_step, sum_below, number_if, is_step_after, is_step_at}
 use Rattle.mix_session.specs.Path.{column_of, is_column, count_in, IsPath, key_of}
-use Rattle.mix_session.specs.Timeline.{Timeline}
 use Rattle.mix_session.specs.declared.path.Span.{Span}
 use Rattle.mix_session.proofs.TallyLemmas.{ones-below}
 

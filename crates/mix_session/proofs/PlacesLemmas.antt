@@ -4,8 +4,7 @@ use Rattle.std.proofs.lemmas.List.{drop-replicate}
 use Rattle.mix_machine.specs.declared.part.Part.TheVariants.{Clock}
 use Rattle.mix_session.specs.Conditions.{most_conditions, AreKept}
 use Rattle.mix_session.specs.law.Conditions.{used_length}
-use Rattle.mix_session.specs.declared.condition.Condition.{Condition}
-use Rattle.mix_session.specs.declared.condition.Condition.TheVariants.{Alters}
+use Rattle.mix_session.specs.Prelude.{Condition, Alters}
 
 -- there is room for one more
 room : (places : List Condition) (count : ℕ) → AreKept places count → length (take count places) < most_conditions → count < 8

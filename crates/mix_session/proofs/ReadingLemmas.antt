@@ -2,14 +2,11 @@
 use Rattle.std.proofs.Common.{◌≡◌, ◌+◌, ◌-◌, ◌<◌, ◌∙◌, ◌++◌, ℕ, suc, Bool, true, false, List, [], ◌∷◌, take, drop, None, Some, Result, Ok, Err, refl, ap, sym, arith, take-append-drop, append-nil, append_assoc, if◌then◌else◌}
 use Rattle.std.specs.Prelude.{ok_or}
 use Rattle.mix_word.specs.Word.{WordValue}
-use Rattle.mixal_text.specs.Names.{NamesValue}
-use Rattle.mixal_text.specs.Steps.{◌>>=◌}
+use Rattle.mixal_text.specs.Prelude.{NamesValue, ◌>>=◌}
 use Rattle.mix_session.specs.Keyword.{keyword_named, until_name, all_untils}
-use Rattle.mix_session.specs.Operand.{no_word}
+use Rattle.mix_session.specs.Prelude.{no_word, Condition, Refusal}
 use Rattle.mix_session.specs.Setting.{condition_of, condition_in}
 use Rattle.mix_session.specs.Until.{operands_of, words_of_keyword, words_of_first, first_condition, after_first, with_others, others_in, conditions_up_to, conditions_in, with_read}
-use Rattle.mix_session.specs.declared.condition.Condition.{Condition}
-use Rattle.mix_session.specs.declared.fault.Refusal.{Refusal}
 use Rattle.mix_session.specs.declared.fault.Refusal.TheVariants.{BadArgument, OutOfRange}
 use Rattle.mix_session.specs.declared.keyword.target.SetWord.TheVariants as set
 use Rattle.mix_session.specs.declared.keyword.target.UntilWord.{UntilWord}

@@ -5,30 +5,14 @@ use Rattle.std.specs.Bool.{beq}
 use Rattle.std.proofs.lemmas.Iterator.Adapters.{position_from-zero}
 use Rattle.std.specs.List.{position_from}
 use Rattle.std.specs.Option.{option_or, option_map}
-use Rattle.mix_word.specs.Word.{is_same_sign}
-use Rattle.mix_word.specs.declared.word.Sign.{Sign}
-use Rattle.mix_word.specs.declared.word.Sign.TheVariants.{Plus, Minus}
-use Rattle.mix_word.specs.declared.word.Cmp.{Cmp}
+use Rattle.mix_word.specs.Prelude.{is_same_sign, Sign, Plus, Minus, Cmp}
 use Rattle.mix_word.specs.declared.word.Cmp.TheVariants.{Less, Equal, Greater}
-use Rattle.mix_machine.specs.World.{WorldState, IsWorld}
-use Rattle.mix_machine.specs.Do.{does}
-use Rattle.mix_machine.specs.Part.{IsPart, is_same_indicator, is_same_mark, mark_of}
-use Rattle.mix_machine.specs.declared.old.Change.TheVariants.{Step}
-use Rattle.mix_machine.specs.declared.part.Part.{Part}
-use Rattle.mix_machine.specs.declared.part.Mark.{Mark}
+use Rattle.mix_machine.specs.Prelude.{WorldState, IsWorld, does, IsPart, is_same_indicator, is_same_mark, mark_of, Step, Part, Mark}
 use Rattle.mix_machine.specs.declared.part.Mark.TheVariants as mark
 use Rattle.mix_session.specs.Command.{is_met_by, is_halt_done, move_conflicts, end_there, end_of_move, end_of_last}
-use Rattle.mix_session.specs.Condition.{is_reached, watched, is_met, is_conflict}
-use Rattle.mix_session.specs.Known.{has_conflict, Tells}
+use Rattle.mix_session.specs.Prelude.{is_reached, watched, is_met, is_conflict, has_conflict, Tells, StopsState, Timeline, world_of, moved, Way, New, Again, Back, Condition, Alters, At, Conflicts, End}
 use Rattle.mix_session.specs.Marks.{IsMove, AreMarks, is_met_from, first_met, end_by_marks}
-use Rattle.mix_session.specs.Stops.{StopsState}
-use Rattle.mix_session.specs.Timeline.{Timeline, world_of, moved}
-use Rattle.mix_session.specs.declared.command.stops.Way.{Way}
-use Rattle.mix_session.specs.declared.command.stops.Way.TheVariants.{New, Again, Back}
-use Rattle.mix_session.specs.declared.condition.Condition.{Condition}
-use Rattle.mix_session.specs.declared.condition.Condition.TheVariants.{Alters, At, Conflicts}
 use Rattle.mix_session.proofs.CommandLemmas.{end_of_last-next}
-use Rattle.mix_session.specs.declared.reply.End.{End}
 use Rattle.mix_session.specs.declared.reply.End.TheVariants.{Halt, Until}
 use Rattle.mix_session.proofs.ConditionLemmas.{AlteredLaw, reached_by_marks, met_told, tells_first, tells_rest}
 

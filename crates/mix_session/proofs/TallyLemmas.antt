@@ -5,23 +5,11 @@ use Rattle.std.proofs.lemmas.Bool.Decides.{nat_tests}
 use Rattle.std.proofs.Math.Seq.{take-length}
 use Rattle.std.specs.List.{range_with_len}
 use Rattle.undo_core.specs.Replay.{replay, TakesBack}
-use Rattle.mix_machine.specs.World.{WorldState, IsWorld}
-use Rattle.mix_machine.specs.Do.{does}
-use Rattle.mix_machine.specs.Part.{IsPart, mark_of, mark_before}
-use Rattle.mix_machine.specs.Write.{put_value}
-use Rattle.mix_machine.specs.declared.old.Change.{Change}
-use Rattle.mix_machine.specs.declared.old.Change.TheVariants.{Step}
-use Rattle.mix_machine.specs.declared.old.Old.{Old}
-use Rattle.mix_machine.specs.declared.part.Part.{Part}
-use Rattle.mix_machine.specs.declared.part.Part.TheVariants.{Loc, Clock}
-use Rattle.mix_machine.specs.declared.part.Mark.{Mark}
+use Rattle.mix_machine.specs.Prelude.{WorldState, IsWorld, does, IsPart, mark_of, mark_before, put_value, Change, Step, Old, Part, Loc, Clock, Mark}
 use Rattle.mixal_asm.specs.Program.{ProgramValue}
-use Rattle.mix_session.specs.Change.{world_at}
+use Rattle.mix_session.specs.Prelude.{world_at, texts, Timeline, world_of, Tally}
 use Rattle.mix_session.specs.Counts.{is_step, sum_below, number_if, time_of, is_step_after, is_step_at, tally_of, tally_at, tally_of_all, count_line, total_line, counts_text}
 use Rattle.mix_session.specs.Tally.{HasRoom, no_tally, tally_in, with_one, location_in, time_in}
-use Rattle.mix_session.specs.Each.{texts}
-use Rattle.mix_session.specs.Timeline.{Timeline, world_of}
-use Rattle.mix_session.specs.declared.tally.Tally.{Tally}
 use Rattle.mix_session.proofs.ConditionLemmas.{BeforeLaw, WorldLaw}
 use Rattle.mix_session.proofs.ShowLemmas.{flat_map-range_next}
 

@@ -6,8 +6,7 @@ use Rattle.std.proofs.lemmas.Bool.Decides.{nat_tests}
 use Rattle.std.proofs.lemmas.Str.{encode_ascii}
 use Rattle.std.proofs.Math.Utf8.{encode}
 use Rattle.std.specs.List.{range_with_len}
-use Rattle.mix_word.specs.Characters.{characters, character_of}
-use Rattle.mix_word.specs.Word.{WordValue, zero_word}
+use Rattle.mix_word.specs.Prelude.{characters, character_of, WordValue, zero_word}
 use Rattle.mix_session.specs.ShowUnit.{deck_word_text, text_after, block_word_text}
 use Rattle.mix_session.proofs.ShowLemmas.{flat_map-next, flat_map-range_next}
 

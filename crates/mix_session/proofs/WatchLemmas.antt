@@ -3,24 +3,11 @@ use Rattle.std.proofs.Common.{◌≡◌, ◌≢◌, ◌<◌, ◌==◌, ◌&&◌,
 use Rattle.std.proofs.lemmas.Bool.{and_parts}
 use Rattle.std.proofs.lemmas.Bool.Decides.{nat_tests}
 use Rattle.std.specs.List.{list_any}
-use Rattle.mix_machine.specs.World.{WorldState, has_break}
-use Rattle.mix_machine.specs.Decode.{instruction}
-use Rattle.mix_machine.specs.Do.{is_plain_next, is_looked_at}
-use Rattle.mix_machine.specs.Part.{is_same_mark, mark_of}
+use Rattle.mix_machine.specs.Prelude.{WorldState, has_break, instruction, is_plain_next, is_looked_at, is_same_mark, mark_of, Mark, ends_at, Many}
 use Rattle.mix_machine.specs.Watch.{WatchState, is_other, is_there, stops_at, with_all, with_location}
-use Rattle.mix_machine.specs.declared.part.Mark.{Mark}
-use Rattle.mix_session.specs.Command.{end_there}
-use Rattle.mix_session.specs.Known.{has_conflict}
-use Rattle.mix_session.specs.Marks.{first_met}
-use Rattle.mix_machine.specs.Many.{ends_at}
+use Rattle.mix_session.specs.Prelude.{end_there, has_conflict, first_met, StopsState, is_awaited, is_at_break, New, Condition, Alters, At}
 use Rattle.mix_session.specs.Plain.{AllowsMany, breaks_of, locations_of, watch_for}
-use Rattle.mix_session.specs.Stops.{StopsState, is_awaited}
-use Rattle.mix_session.specs.Timeline.{is_at_break}
-use Rattle.mix_machine.specs.declared.many.Many.{Many}
 use Rattle.mix_machine.specs.declared.many.Many.TheVariants.{Until}
-use Rattle.mix_session.specs.declared.command.stops.Way.TheVariants.{New}
-use Rattle.mix_session.specs.declared.condition.Condition.{Condition}
-use Rattle.mix_session.specs.declared.condition.Condition.TheVariants.{Alters, At}
 use Rattle.mix_session.proofs.PlainLemmas.{on-plain}
 
 or-parts : (a b : Bool) → (a || b) ≡ false → (a ≡ false) × (b ≡ false)

@@ -2,13 +2,8 @@
 use Rattle.std.specs.Prelude.{ℕ, ◌+◌, ◌-◌, List, [], ◌∷◌, ◌++◌, codes, take, get_or, length, unwrap_or, nat_lt, Bool, true, false, Option, None, Some, if◌then◌else◌}
 use Rattle.std.specs.Fmt.{decimal}
 use Rattle.undo_core.specs.Replay.{replay}
-use Rattle.mix_word.specs.Instruction.{instruction_text}
-use Rattle.mix_word.specs.Register.{name_of_register}
-use Rattle.mix_word.specs.Text.{location_text}
-use Rattle.mix_machine.specs.World.{WorldState, cell_of}
-use Rattle.mix_machine.specs.Do.{does}
-use Rattle.mix_machine.specs.declared.old.Change.{Change}
-use Rattle.mix_machine.specs.declared.old.Change.TheVariants.{Step, SetReg, SetCell, SetLoc, SetOver, SetCmp, Break, Clear}
+use Rattle.mix_word.specs.Prelude.{instruction_text, name_of_register, location_text}
+use Rattle.mix_machine.specs.Prelude.{WorldState, cell_of, does, Change, Step, SetReg, SetCell, SetLoc, SetOver, SetCmp, Break, Clear}
 use Rattle.mix_session.specs.Altered.{altered_by}
 use Rattle.mix_session.specs.Condition.{is_reached}
 use Rattle.mix_session.specs.Columns.{left_in, right_in}

@@ -4,8 +4,7 @@
 use Rattle.std.specs.Prelude.{ℕ, zero, suc, ◌-◌, Bool, List, [], ◌∷◌, length, take, map, codes, Option, None, Some, if◌then◌else◌}
 use Rattle.std.specs.List.{filter, list_any}
 use Rattle.mix_lines.specs.Lines.{is_blank, words}
-use Rattle.mixal_asm.specs.Program.{ProgramValue}
-use Rattle.mixal_asm.specs.Source.{symbols_of}
+use Rattle.mixal_asm.specs.Prelude.{ProgramValue, symbols_of}
 use Rattle.mix_session.specs.Conditions.{most_conditions}
 use Rattle.mix_session.specs.Keyword.{is_name, keyword_named, command_name, all_commands, back_name, all_backs, forth_name, all_forths}
 use Rattle.mix_session.specs.Keyword.{set_name, all_sets, until_name, all_untils, toggle_name, all_toggles, indicator_name, all_indicators}

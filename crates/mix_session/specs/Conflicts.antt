@@ -2,13 +2,10 @@
 use Rattle.std.specs.Prelude.{ℕ, zero, suc, ◌+◌, ◌-◌, List, [], ◌∷◌, ◌++◌, codes, length, Bool, Option, None, Some, is_some}
 use Rattle.std.specs.Fmt.{decimal}
 use Rattle.mix_word.specs.Text.{location_text}
-use Rattle.mix_machine.specs.Transfers.{TransfersState, no_transfers, transfers_after, conflict_of}
-use Rattle.mix_machine.specs.declared.transfers.Conflict.{Conflict}
+use Rattle.mix_machine.specs.Prelude.{TransfersState, no_transfers, transfers_after, conflict_of, Conflict, UnitKind, kind_of}
 use Rattle.mix_machine.specs.declared.transfers.Direction.{Direction}
 use Rattle.mix_machine.specs.declared.transfers.Direction.TheVariants as way
-use Rattle.mix_machine.specs.declared.units.kind.UnitKind.{UnitKind}
 use Rattle.mix_machine.specs.declared.units.kind.UnitKind.TheVariants as unit
-use Rattle.mix_machine.specs.units.UnitKind.{kind_of}
 use Rattle.mix_session.specs.Change.{world_at, change_at, change_front, writes_text}
 use Rattle.mix_session.specs.Each.{texts}
 use Rattle.mix_session.specs.Timeline.{Timeline}

@@ -1,8 +1,7 @@
 -- The text of what differs between two states of the machine: an item for each part that does.
 use Rattle.std.specs.Prelude.{ℕ, ◌+◌, ◌==◌, List, [], ◌∷◌, ◌++◌, codes, length, get_or, flat_map, if◌then◌else◌}
 use Rattle.std.specs.Fmt.{decimal}
-use Rattle.mix_word.specs.Text.{location_text, word_text}
-use Rattle.mix_word.specs.Register.{name_of_register}
+use Rattle.mix_word.specs.Prelude.{location_text, word_text, name_of_register}
 use Rattle.mix_machine.specs.World.{WorldState, register_of, cell_of, has_break, unit_at}
 use Rattle.mix_session.specs.Altered.{alterations, unit_differences}
 use Rattle.mix_session.specs.Keyword.{toggle_name, indicator_name}

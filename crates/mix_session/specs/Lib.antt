@@ -23,6 +23,7 @@ pub mod Operand
 pub mod Passages
 pub mod Path
 pub mod Plain
+pub mod Prelude
 pub mod Reply
 pub mod Request
 pub mod Session

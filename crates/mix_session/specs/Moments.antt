@@ -1,8 +1,7 @@
 -- A machine that is at one moment of a timeline after another: after the first changes of all.
 use Rattle.std.specs.Prelude.{◌≡◌, ◌≤◌, ℕ, Some, length, take}
 use Rattle.undo_core.specs.Replay.{replay}
-use Rattle.mix_machine.specs.Do.{does}
-use Rattle.mix_machine.specs.World.{WorldState}
+use Rattle.mix_machine.specs.Prelude.{does, WorldState}
 use Rattle.mix_session.specs.Change.{all_changes}
 use Rattle.mix_session.specs.Timeline.{Timeline}
 

@@ -1,7 +1,6 @@
 -- What the names of a program mean to a command.
 use Rattle.mixal_text.specs.Names.{NamesValue}
-use Rattle.mixal_asm.specs.PassOne.{names_at}
-use Rattle.mixal_asm.specs.Program.{ProgramValue}
+use Rattle.mixal_asm.specs.Prelude.{names_at, ProgramValue}
 
 -- the finished map, and of dB the last dH
 abbrev pub names_of : ProgramValue → NamesValue

@@ -1,13 +1,8 @@
 -- The words after a keyword of a command: words that have to be there, numbers, cells, units, W-values.
 use Rattle.std.specs.Prelude.{◌==◌, ◌-◌, ℕ, ℤ, pos, negsuc, List, [], ◌∷◌, Result, Ok, Err, nat_lt, ok_or, if◌then◌else◌}
 use Rattle.mix_lines.specs.Number.{decimal_number}
-use Rattle.mix_word.specs.Word.{WordValue, number_of}
-use Rattle.mix_word.specs.Uses.{unit_count}
-use Rattle.mixal_text.specs.Names.{NamesValue}
-use Rattle.mixal_text.specs.Expression.{whole_expression}
-use Rattle.mixal_text.specs.WValue.{w_value_of}
-use Rattle.mixal_text.specs.declared.misread.Misread.{Misread}
-use Rattle.mixal_text.specs.Steps.{◌>>=◌}
+use Rattle.mix_word.specs.Prelude.{WordValue, number_of, unit_count}
+use Rattle.mixal_text.specs.Prelude.{NamesValue, whole_expression, w_value_of, Misread, ◌>>=◌}
 use Rattle.mix_session.specs.Keyword.{keyword_named}
 use Rattle.mix_session.specs.declared.fault.Refusal.{Refusal}
 use Rattle.mix_session.specs.declared.fault.Refusal.TheVariants.{BadArgument, OutOfRange}

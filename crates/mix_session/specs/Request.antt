@@ -8,11 +8,9 @@ use Rattle.mix_session.specs.Until.{conditions_in}
 use Rattle.mix_session.specs.ShowRequest.{topic_in}
 use Rattle.mix_lines.specs.Lines.{words, is_comment}
 use Rattle.mix_word.specs.Word.{WordValue}
-use Rattle.mixal_text.specs.Names.{NamesValue}
-use Rattle.mixal_asm.specs.Program.{ProgramValue}
-use Rattle.mixal_asm.specs.Source.{cell_from}
+use Rattle.mixal_text.specs.Prelude.{NamesValue, ◌>>=◌}
+use Rattle.mixal_asm.specs.Prelude.{ProgramValue, cell_from}
 use Rattle.mix_session.specs.Names.{names_of}
-use Rattle.mixal_text.specs.Steps.{◌>>=◌}
 use Rattle.mix_session.specs.declared.fault.Refusal.{Refusal}
 use Rattle.mix_session.specs.declared.fault.Refusal.TheVariants.{NoSuchCommand, BadArgument, OutOfRange}
 use Rattle.mix_session.specs.declared.keyword.command.CommandWord.{CommandWord}

@@ -1,8 +1,7 @@
 -- A session: the program, whose names commands may use, and the timeline of its machine.
 use Rattle.std.specs.Prelude.{ℕ, List, Result}
 use Rattle.mixal_asm.specs.Program.{ProgramValue}
-use Rattle.mix_machine.specs.Loaded.{loaded}
-use Rattle.mix_machine.specs.units.Units.{UnitsState}
+use Rattle.mix_machine.specs.Prelude.{loaded, UnitsState}
 use Rattle.mix_session.specs.Timeline.{Timeline, beginning}
 use Rattle.mix_session.specs.Command.{Effect, command, request_at}
 use Rattle.mix_session.specs.declared.fault.Refusal.{Refusal}

@@ -1,12 +1,9 @@
 -- What `show code` writes: a cell with its word, the instruction that the word is, and the line of the source that it comes from.
 use Rattle.std.specs.Prelude.{ℕ, ◌+◌, not, Bool, true, false, List, [], ◌∷◌, ◌++◌, codes, Option, Some, None}
 use Rattle.std.specs.Fmt.{decimal}
-use Rattle.mix_word.specs.Word.{WordValue, is_same_word}
-use Rattle.mix_word.specs.Text.{location_text, word_text}
-use Rattle.mix_word.specs.Instruction.{instruction_text}
+use Rattle.mix_word.specs.Prelude.{WordValue, is_same_word, location_text, word_text, instruction_text}
 use Rattle.mix_machine.specs.World.{WorldState, cell_of}
-use Rattle.mixal_asm.specs.PassOne.{SourceValue, Line, OfLiteral, OfName}
-use Rattle.mixal_asm.specs.Program.{ProgramValue}
+use Rattle.mixal_asm.specs.Prelude.{SourceValue, Line, OfLiteral, OfName, ProgramValue}
 use Rattle.mixal_asm.specs.Source.{source_at, word_at}
 use Rattle.mix_session.specs.Columns.{blanks, left_in, right_in}
 use Rattle.mix_session.specs.Each.{texts}

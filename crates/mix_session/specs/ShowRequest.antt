@@ -1,8 +1,7 @@
 -- What `show` is to show: its keywords, and the words that each takes after it.
 use Rattle.std.specs.Prelude.{ℕ, List, [], ◌∷◌, codes, Result, Ok, Err, nat_lt, if◌then◌else◌}
 use Rattle.mix_word.specs.Word.{WordValue}
-use Rattle.mixal_text.specs.Names.{NamesValue}
-use Rattle.mixal_text.specs.Steps.{◌>>=◌}
+use Rattle.mixal_text.specs.Prelude.{NamesValue, ◌>>=◌}
 use Rattle.mix_session.specs.Operand.{no_word, one_word, two_words, first_keyword, number_in, word_in, expression_in, from_one, place_of, one_unit}
 use Rattle.mix_session.specs.Setting.{condition_in}
 use Rattle.mix_session.specs.declared.fault.Refusal.{Refusal}

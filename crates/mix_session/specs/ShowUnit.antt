@@ -2,15 +2,9 @@
 use Rattle.std.specs.Prelude.{◌==◌, ℕ, ◌+◌, ◌/◌, ◌%◌, List, [], ◌∷◌, ◌++◌, codes, length, map, slice_index_or, flat_map, Some, None, if◌then◌else◌}
 use Rattle.std.specs.Fmt.{decimal}
 use Rattle.std.specs.List.{range_with_len}
-use Rattle.mix_word.specs.Characters.{character_of}
-use Rattle.mix_word.specs.Text.{sign_text}
+use Rattle.mix_word.specs.Prelude.{character_of, sign_text}
 use Rattle.mix_word.specs.Word.{WordValue, zero_word, bytes_of}
-use Rattle.mix_machine.specs.World.{WorldState, unit_at}
-use Rattle.mix_machine.specs.units.UnitKind.{kind_of}
-use Rattle.mix_machine.specs.units.Row.{RowState}
-use Rattle.mix_machine.specs.units.Unit.{UnitState}
-use Rattle.mix_machine.specs.declared.units.kind.UnitKind.{UnitKind}
-use Rattle.mix_machine.specs.declared.units.kind.UnitKind.TheVariants.{Tape, Disk, CardReader, CardPunch, Printer, Typewriter, PaperTape}
+use Rattle.mix_machine.specs.Prelude.{WorldState, unit_at, kind_of, RowState, UnitState, UnitKind, Tape, Disk, CardReader, CardPunch, Printer, Typewriter, PaperTape}
 
 -- a byte, in two digits
 abbrev pub pair_text : ℕ → List ℕ

@@ -3,8 +3,7 @@
 ghost use Rattle.std.specs.Prelude.{◌≡◌, ◌≤◌, ◌<◌, ◌++◌, ◌∷◌, [], Some, Ok, OnOk, IfOk};
 ghost use Rattle.std.specs.List.{filter};
 ghost use Rattle.undo_core.specs.Replay.{put_back};
-ghost use Rattle.mix_machine.specs.Do.{does};
-ghost use Rattle.mix_machine.specs.Write.{put_value};
+ghost use Rattle.mix_machine.specs.Prelude.{does, put_value};
 ghost use Rattle.mix_session.specs.Altered.{count_of, part_of, numbered, with_numbered, is_altered, alterations, altered_by};
 ghost use Rattle.mix_session.specs.Named.{Covers, HoldsAll};
 

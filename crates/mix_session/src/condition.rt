@@ -1,8 +1,7 @@
 //! What a command waits for.
 
 ghost use Rattle.std.specs.Prelude.{◌≡◌};
-ghost use Rattle.mix_session.specs.Condition.{watched, is_met, is_conflict};
-ghost use Rattle.mix_session.specs.Known.{has_conflict};
+ghost use Rattle.mix_session.specs.Prelude.{watched, is_met, is_conflict, has_conflict};
 
 use mix_machine::{Mark, Part, Place};
 

@@ -2,12 +2,9 @@
 
 ghost use Rattle.std.specs.Prelude.{◌≡◌, ◌<◌, ◌+◌, ◌++◌, List, Some, OnOk, IfErr, IfOk, length, take, true, false, is_some, if◌then◌else◌};
 ghost use Rattle.undo_core.specs.Replay.{replay};
-ghost use Rattle.mix_machine.specs.Do.{does};
-ghost use Rattle.mix_machine.specs.declared.old.Change.TheVariants.{Step};
-ghost use Rattle.mix_session.specs.Client.{conflict_after};
-ghost use Rattle.mix_session.specs.Conflicts.{transfers_at, conflict_at};
+ghost use Rattle.mix_machine.specs.Prelude.{does, Step};
+ghost use Rattle.mix_session.specs.Prelude.{conflict_after, transfers_at, conflict_at, Timeline};
 ghost use Rattle.mix_session.specs.Known.{has_conflict, Knows, LooksAt, LooksOn};
-ghost use Rattle.mix_session.specs.Timeline.{Timeline};
 ghost use Rattle.mix_session.specs.declared.command.stops.Way.{Way as AWay};
 ghost use Rattle.mix_session.specs.declared.condition.Condition.{Condition as ACondition};
 

@@ -2,15 +2,9 @@
 ghost use Rattle.std.specs.Prelude.{◌≡◌, ◌≤◌, ◌+◌, ◌++◌, ◌↔◌, ℕ, [], List, length, IsSome};
 ghost use Rattle.undo_core.specs.Replay.{replay};
 ghost use Rattle.mix_word.specs.Word.{WordValue};
-ghost use Rattle.mix_machine.specs.World.{WorldState, IsWorld};
-ghost use Rattle.mix_machine.specs.Do.{does};
-ghost use Rattle.mix_machine.specs.Loaded.{loaded};
-ghost use Rattle.mix_machine.specs.units.Units.{UnitsState};
-ghost use Rattle.mix_session.specs.Altered.{alterations};
-ghost use Rattle.mix_session.specs.Counts.{tally_at, tally_of_all};
-ghost use Rattle.mix_session.specs.Differences.{lines_text, columns_text};
+ghost use Rattle.mix_machine.specs.Prelude.{WorldState, IsWorld, does, loaded, UnitsState};
+ghost use Rattle.mix_session.specs.Prelude.{alterations, tally_at, tally_of_all, lines_text, columns_text, Timeline, back_by, forth_by, world_of};
 ghost use Rattle.mix_session.specs.Sums.{sum_of_cells, steps_done, AreReal};
-ghost use Rattle.mix_session.specs.Timeline.{Timeline, back_by, forth_by, world_of};
 
 use mix_machine::{change_law, mark_law};
 

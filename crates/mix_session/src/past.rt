@@ -2,13 +2,7 @@
 //! which of them altered a part, and after which of them the machine is at a location.
 
 ghost use Rattle.std.specs.Prelude.{◌≡◌, ◌<◌, ◌+◌, ℕ, IfErr, IfOk, length, min, string_bytes, take};
-ghost use Rattle.mix_session.specs.Change.{all_changes, world_at, change_line, change_text};
-ghost use Rattle.mix_session.specs.Counts.{tally_at, tally_of_all};
-ghost use Rattle.mix_session.specs.Client.{change_numbered, conflict_after};
-ghost use Rattle.mix_session.specs.Passages.{passages_back};
-ghost use Rattle.mix_session.specs.Path.{IsPath};
-ghost use Rattle.mix_session.specs.Tally.{tally_in};
-ghost use Rattle.mix_session.specs.Writes.{writes_back};
+ghost use Rattle.mix_session.specs.Prelude.{all_changes, world_at, change_line, change_text, tally_at, tally_of_all, change_numbered, conflict_after, passages_back, IsPath, tally_in, writes_back};
 
 use crate::altered::Worlds;
 use crate::conflicts::conflict_after;

@@ -2,12 +2,10 @@
 
 ghost use Rattle.std.specs.Prelude.{◌≡◌, ◌<◌, ◌-◌, ◌^◌, Err, IfErr, IfOk, IfSome, false, length};
 ghost use Rattle.std.specs.Io.KnownBytes.{Appends, Keeps};
-ghost use Rattle.mix_session.specs.Timeline.{world_of};
+ghost use Rattle.mix_session.specs.Prelude.{world_of, after, effect_of, effect_of_run, reply_of, Begun, HasEffect, opened, request_in, effect_in};
 ghost use Rattle.mix_word.specs.Word.{plus};
 ghost use Rattle.mix_session.specs.Answer.{refusal_of, told_of, text_of};
-ghost use Rattle.mix_session.specs.Command.{after, effect_of, effect_of_run, reply_of, Begun, HasEffect};
 ghost use Rattle.mix_session.specs.BrokenOff.{asks_first, watches, BrokenOff};
-ghost use Rattle.mix_session.specs.Session.{opened, request_in, effect_in};
 ghost use Rattle.mix_refused.specs.Refused.{IsFault};
 ghost use Rattle.mix_stream.specs.Stream.{AppendsFront, CountsFailure};
 

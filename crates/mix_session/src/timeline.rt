@@ -2,11 +2,8 @@
 
 ghost use Rattle.std.specs.Prelude.{◌≡◌, ◌≤◌, ◌+◌, Some, OnOk, IfOk, length, take};
 ghost use Rattle.undo_core.specs.Replay.{replay, TakesBack};
-ghost use Rattle.mix_machine.specs.Do.{does};
-ghost use Rattle.mix_machine.specs.Write.{put_value};
-ghost use Rattle.mix_session.specs.Change.{all_changes, world_at};
-ghost use Rattle.mix_session.specs.Moments.{IsMoment};
-ghost use Rattle.mix_session.specs.Timeline.{world_of};
+ghost use Rattle.mix_machine.specs.Prelude.{does, put_value};
+ghost use Rattle.mix_session.specs.Prelude.{all_changes, world_at, IsMoment, world_of};
 
 use mix_machine::{Old, World};
 use std::alloc::Global;

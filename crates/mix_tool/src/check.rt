@@ -1,9 +1,8 @@
 //! A check of the sources of some files.
 
 ghost use Rattle.std.specs.Prelude.{◌≡◌, ◌≢◌, ◌<◌, ◌≤◌, ◌-◌, ◌^◌, ◌++◌, ◌∷◌, [], ℕ, List, None, Some, IfErr, IfOk, map, option_map, string_bytes};
-ghost use Rattle.mix_run.specs.Check.{Checks, Named, Reported};
+ghost use Rattle.mix_run.specs.Prelude.{Checks, Named, Reported, Asks, Files, Opens, asked_of, missing_of, opened_text};
 ghost use Rattle.mix_tool.specs.Ending.{IsFileOf, Runs};
-ghost use Rattle.mix_run.specs.Opening.{Asks, Files, Opens, asked_of, missing_of, opened_text};
 ghost use Rattle.mix_tool.specs.Plan.{DoneAfter, named_of, seen};
 
 use crate::ending::{status, tell_not_opened};

@@ -1,15 +1,15 @@
 //! A plan is done: its files are opened, and the run is made on their texts.
 
 ghost use Rattle.std.specs.Prelude.{◌≡◌, ◌≢◌, ◌<◌, ◌≤◌, ◌-◌, ◌^◌, ℕ, List, Ok, Err, Some, true, false};
-ghost use Rattle.dap_stream.specs.declared.broken.Broken.{Broken};
-ghost use Rattle.dap_stream.specs.declared.broken.Broken.TheVariants as broken;
+ghost use Rattle.rpc_stream.specs.declared.broken.Broken.{Broken};
+ghost use Rattle.rpc_stream.specs.declared.broken.Broken.TheVariants as broken;
 ghost use Rattle.mix_dap.specs.Dialogue.{DialogueAs, TellsBroken};
 ghost use Rattle.mix_stream.specs.Stream.{CountsFailure};
 ghost use Rattle.mix_lsp.specs.Served.{ServedAs};
 ghost use Rattle.mix_run.specs.Opening.{Asks, Files, asked_of, missing_of};
 ghost use Rattle.mix_tool.specs.Ending.{Creates};
-ghost use Rattle.mix_tool.specs.Plan.{AreFresh, HoldTexts, DoneAfter, IsDone, RunsOn, SavesOn, creates_of, files_of, given_of, adapts, hears_client, is_quiet, names_of, reads_input, seen, sources_of, speaks};
 ghost use Rattle.mix_tool.specs.Run.{Given};
+ghost use Rattle.mix_tool.specs.Plan.{AreFresh, HoldTexts, DoneAfter, IsDone, RunsOn, SavesOn, creates_of, files_of, given_of, adapts, hears_client, is_quiet, names_of, reads_input, seen, sources_of, speaks};
 
 use crate::asked::names_in;
 use crate::check::check_files;

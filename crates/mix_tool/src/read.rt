@@ -2,9 +2,7 @@
 
 ghost use Rattle.std.specs.Prelude.{◌≡◌, ◌≢◌, ◌<◌, ◌+◌, ◌-◌, ◌^◌, ◌∷◌, ℕ, List, Some, Ok, Err, IfErr, IfOk, is_some, option_map, string_bytes, take};
 ghost use Rattle.mix_machine.specs.units.deck.Deck.{deck_of};
-ghost use Rattle.mix_run.specs.Fault.{IsMemoryOrRead};
-ghost use Rattle.mix_run.specs.Opening.{named};
-ghost use Rattle.mix_run.specs.UnitsRead.{GivesUnits, deck_given};
+ghost use Rattle.mix_run.specs.Prelude.{IsMemoryOrRead, named, GivesUnits, deck_given};
 ghost use Rattle.mix_stream.specs.Stream.{ConsumesAtMost, CountsFailure};
 ghost use Rattle.mix_tool.specs.Ending.{IsAmong};
 ghost use Rattle.mix_tool.specs.Plan.{AreFresh, HasFailed, names_of_run, rest_of};

@@ -1,12 +1,8 @@
 -- Rows are those of the cells that there are, whatever counts the others.
 use Rattle.std.proofs.Common.{◌≡◌, ◌<◌, ◌≤◌, ◌∙◌, ℕ, zero, suc, List, ◌++◌, refl, ap, arith}
 use Rattle.mix_formula.specs.Rows.{RowValue}
-use Rattle.mix_session.specs.Counts.{tally_at}
-use Rattle.mix_session.specs.Session.{SessionState}
-use Rattle.mix_session.specs.Tally.{tally_in}
-use Rattle.mixal_asm.specs.Program.{ProgramValue}
-use Rattle.mixal_asm.specs.Source.{source_at}
-use Rattle.mix_session.specs.declared.tally.Tally.{Tally}
+use Rattle.mix_session.specs.Prelude.{tally_at, SessionState, tally_in, Tally}
+use Rattle.mixal_asm.specs.Prelude.{ProgramValue, source_at}
 use Rattle.mix_views.specs.Analysis.{row_at, rows_below, rows_in}
 
 pub same-rows : (program : ProgramValue) (a b : ℕ → Tally) (n : ℕ) → n ≤ 4000 → ((p : ℕ) → p < 4000 → a p ≡ b p) → rows_below program a n ≡ rows_below program b n

@@ -1,16 +1,9 @@
 -- What `show analysis` says: the counts of the book, which stand in brackets in the lines of the source, beside those that are measured.
 use Rattle.std.specs.Prelude.{ℕ, zero, suc, ◌&&◌, Bool, List, [], ◌∷◌, ◌++◌, is_some, Option, None, Some, option_and_then, if◌then◌else◌}
 use Rattle.std.specs.Option.{option_map}
-use Rattle.mix_formula.specs.Given.{given_of}
-use Rattle.mix_formula.specs.Names.{NameValue}
-use Rattle.mix_formula.specs.Rows.{RowValue}
-use Rattle.mix_formula.specs.Text.{bracket_of}
-use Rattle.mixal_asm.specs.PassOne.{SourceValue, Line, OfLiteral, OfName}
-use Rattle.mixal_asm.specs.Program.{ProgramValue}
-use Rattle.mixal_asm.specs.Source.{source_at, is_instruction}
-use Rattle.mix_session.specs.Counts.{tally_at}
-use Rattle.mix_session.specs.Session.{SessionState}
-use Rattle.mix_session.specs.declared.tally.Tally.{Tally}
+use Rattle.mix_formula.specs.Prelude.{given_of, NameValue, RowValue, bracket_of}
+use Rattle.mixal_asm.specs.Prelude.{SourceValue, Line, OfLiteral, OfName, ProgramValue, source_at, is_instruction}
+use Rattle.mix_session.specs.Prelude.{tally_at, SessionState, Tally}
 
 -- the values that words give, if each gives one
 abbrev pub given_first : NameValue → Option (List NameValue) → Option (List NameValue)

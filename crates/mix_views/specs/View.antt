@@ -4,9 +4,7 @@ use Rattle.std.specs.Str.{str_eq_ignore_ascii_case}
 use Rattle.mix_word.specs.Word.{plus}
 use Rattle.mix_nodes.specs.Read.{shape_of}
 use Rattle.mix_passages.specs.Reading.{passages_in}
-use Rattle.mix_session.specs.Names.{names_of}
-use Rattle.mix_session.specs.Session.{SessionState}
-use Rattle.mix_session.specs.Timeline.{world_of}
+use Rattle.mix_session.specs.Prelude.{names_of, SessionState, world_of}
 use Rattle.mix_views.specs.Analysis.{given_in}
 
 -- whether words after `show` and one of these names stand for a view; in those of nodes the asterisk is the location. Other names are those of commands

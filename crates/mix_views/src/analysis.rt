@@ -1,11 +1,8 @@
 //! What `show analysis` says: the counts of the book, which stand in brackets in the lines of the source, beside those that are measured.
 
 ghost use Rattle.std.specs.Prelude.{◌≡◌, ◌<◌, ◌≤◌, ◌++◌, if◌then◌else◌, None, IfOk, OnOk, Some, is_some, map};
-ghost use Rattle.mix_formula.specs.Names.{all_named};
-ghost use Rattle.mix_formula.specs.Rows.{all_rows};
-ghost use Rattle.mix_formula.specs.Text.{bracket_of};
-ghost use Rattle.mixal_asm.specs.Row.{source_value};
-ghost use Rattle.mixal_asm.specs.Source.{source_at};
+ghost use Rattle.mix_formula.specs.Prelude.{all_named, all_rows, bracket_of};
+ghost use Rattle.mixal_asm.specs.Prelude.{source_value, source_at};
 ghost use Rattle.mix_session.specs.Tally.{tally_in};
 ghost use Rattle.mix_views.specs.Analysis.{given_in, given_onto, row_at, row_if, row_of, rows_below, rows_in};
 

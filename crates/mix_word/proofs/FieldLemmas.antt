@@ -3,10 +3,8 @@ use Rattle.std.proofs.Common.{◌≡◌, ℕ, ◌+◌, ◌*◌, ◌-◌, ◌/◌
 use Rattle.std.proofs.lemmas.Nat.{pow-add, one_shl, and_mask, and-not, shl_whole, pow_pos, mod_below, shr_split, shr_below, mul-add-lt, and_comm, mod-pow-add}
 use Rattle.std.proofs.lemmas.Nat.Bits.{and_high}
 use Rattle.std.proofs.lemmas.Bool.Decides.{nat_tests}
-use Rattle.mix_word.specs.declared.word.Sign.{Sign}
-use Rattle.mix_word.specs.Word.{WordValue, word}
+use Rattle.mix_word.specs.Prelude.{Sign, WordValue, word, FieldValue, field, put_field_of}
 use Rattle.mix_word.specs.Packed.{word_of_bits, bits_of_word}
-use Rattle.mix_word.specs.Field.{FieldValue, field, put_field_of}
 use Rattle.mix_word.proofs.Powers.{six_bits}
 
 pub mask_is : (bits : ℕ) → bits ≤ 30 → (1 * 2 ^ bits) % 2 ^ 32 - 1 ≡ 2 ^ bits - 1

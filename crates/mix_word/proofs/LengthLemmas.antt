@@ -1,17 +1,7 @@
 -- no name is longer than four letters, so that no longer text names an operation
 use Rattle.std.proofs.Common.{◌≡◌, ℕ, ◌<◌, ◌≤◌, arith, List, Some, None, length, length-append, refl, ap}
-use Rattle.mix_word.specs.declared.register.DataReg.{DataReg}
-use Rattle.mix_word.specs.declared.register.DataReg.TheVariants.{A}
-use Rattle.mix_word.specs.declared.operation.ShiftKind.{ShiftKind}
-use Rattle.mix_word.specs.declared.operation.ShiftKind.TheVariants.{Sla}
-use Rattle.mix_word.specs.declared.operation.JumpKind.{JumpKind}
-use Rattle.mix_word.specs.declared.operation.JumpKind.TheVariants.{Jmp}
-use Rattle.mix_word.specs.declared.operation.Condition.{Condition}
-use Rattle.mix_word.specs.declared.operation.Condition.TheVariants.{Negative}
-use Rattle.mix_word.specs.declared.operation.Operation.{Operation}
-use Rattle.mix_word.specs.declared.operation.Operation.TheVariants.{Shift, Load, LoadNegated, Store, Jump, RegisterJump, Increase, Decrease, Enter, EnterNegated, Compare}
+use Rattle.mix_word.specs.Prelude.{DataReg, A, ShiftKind, Sla, JumpKind, Jmp, Condition, Negative, Operation, Shift, Load, LoadNegated, Store, Jump, RegisterJump, Increase, Decrease, Enter, EnterNegated, Compare, operation_named}
 use Rattle.mix_word.specs.Names.{name_of, letter_of, ending_of, name_of_shift, name_of_jump}
-use Rattle.mix_word.specs.Table.{operation_named}
 use Rattle.mix_word.proofs.NameLemmas.{found_name}
 
 letter : (r : DataReg) → length (letter_of r) ≡ 1

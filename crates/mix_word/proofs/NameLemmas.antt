@@ -7,9 +7,7 @@ use Rattle.std.proofs.lemmas.List.{drop-map, length-map, take_rest}
 use Rattle.std.proofs.lemmas.Slice.Eq.{bytes_eq-Decides}
 use Rattle.mix_word.proofs.FindLemmas.{find-passes, find-column}
 use Rattle.mix_word.proofs.TableLemmas.{own}
-use Rattle.mix_word.specs.declared.operation.Operation.{Operation}
-use Rattle.mix_word.specs.Names.{name_of}
-use Rattle.mix_word.specs.Table.{operations, operation_named}
+use Rattle.mix_word.specs.Prelude.{Operation, name_of, operations, operation_named}
 
 pub found_name : (name : List ℕ) (op : Operation) → operation_named name ≡ Some op → name_of op ≡ name
 unfolding operation_named

@@ -2,17 +2,7 @@
 use Rattle.std.proofs.Common.{◌≡◌, ℕ, zero, suc, ◌+◌, ◌<◌, ◌/◌, ◌%◌, Bool, true, false, not, ◌&&◌, ◌||◌, ◌==◌, nat_eq, List, [], ◌∷◌, length, get_or, Option, Some, refl, subst, ap, arith, ◌∙◌, sym}
 use Rattle.std.specs.List.{find}
 use Rattle.std.proofs.lemmas.Bool.Decides.{nat_tests}
-use Rattle.mix_word.specs.declared.register.DataReg.TheVariants.{A, I1, I2, I3, I4, I5, I6, X}
-use Rattle.mix_word.specs.declared.operation.ShiftKind.TheVariants.{Sla}
-use Rattle.mix_word.specs.declared.operation.JumpKind.TheVariants.{Jmp}
-use Rattle.mix_word.specs.declared.operation.Condition.TheVariants.{Negative}
-use Rattle.mix_word.specs.declared.operation.Operation.{Operation}
-use Rattle.mix_word.specs.declared.operation.Operation.TheVariants.{Shift, Load, LoadNegated, Store, Jump, RegisterJump, Increase, Decrease, Enter, EnterNegated, Compare}
-use Rattle.mix_word.specs.declared.decoding.Decoded.{Decoded}
-use Rattle.mix_word.specs.declared.decoding.Decoded.TheVariants.{Named, Floating, Unknown}
-use Rattle.mix_word.specs.Operation.{operation_code}
-use Rattle.mix_word.specs.Table.{operations, decode_of, IsNamedBy}
-use Rattle.mix_word.specs.Pairs.{number_of_operation, number_of_pair, is_of_register, IsPairTable}
+use Rattle.mix_word.specs.Prelude.{A, I1, I2, I3, I4, I5, I6, X, Sla, Jmp, Negative, Operation, Shift, Load, LoadNegated, Store, Jump, RegisterJump, Increase, Decrease, Enter, EnterNegated, Compare, Decoded, Named, Floating, Unknown, operation_code, operations, decode_of, IsNamedBy, number_of_operation, number_of_pair, is_of_register, IsPairTable}
 use Rattle.mix_word.proofs.TableLemmas.{law_found}
 
 -- each number of a list, from the place of a pair on, is that of its pair

@@ -3,9 +3,8 @@ use Rattle.std.proofs.Common.{◌≡◌, ◌↔◌, List, ℕ, Option, Some, ref
 use Rattle.std.specs.Str.{bytes_eq}
 use Rattle.std.proofs.lemmas.Slice.Eq.{bytes_eq-Decides}
 use Rattle.mix_word.proofs.FindLemmas.{find-passes}
-use Rattle.mix_word.specs.declared.register.Reg.{Reg}
+use Rattle.mix_word.specs.Prelude.{Reg, all_registers, name_of_register, register_named}
 use Rattle.mix_word.specs.declared.register.Reg.TheVariants.{A}
-use Rattle.mix_word.specs.Register.{all_registers, name_of_register, register_named}
 
 own_name : (r : Reg) → register_named (name_of_register r) ≡ Some r
 own_name A = refl

@@ -1,10 +1,7 @@
 -- The registers of a row of eight operation codes, each at its place in the row.
 use Rattle.std.proofs.Common.{◌≡◌, [], ◌∷◌, get_or, refl}
-use Rattle.mix_word.specs.Register.{offset_of, reg_of}
-use Rattle.mix_word.specs.declared.register.Reg.{Reg}
+use Rattle.mix_word.specs.Prelude.{offset_of, reg_of, Reg, DataReg, A, I1, I2, I3, I4, I5, I6, X}
 use Rattle.mix_word.specs.declared.register.Reg.TheVariants as reg
-use Rattle.mix_word.specs.declared.register.DataReg.{DataReg}
-use Rattle.mix_word.specs.declared.register.DataReg.TheVariants.{A, I1, I2, I3, I4, I5, I6, X}
 
 pub register-in-row : (r : DataReg) (d : Reg) →
     get_or (reg.A ∷ reg.I1 ∷ reg.I2 ∷ reg.I3 ∷ reg.I4 ∷ reg.I5 ∷ reg.I6 ∷ reg.X ∷ []) (offset_of r) d ≡ reg_of r

@@ -5,19 +5,8 @@ use Rattle.std.proofs.lemmas.List.{length-map}
 use Rattle.std.specs.Option.{option_map}
 use Rattle.std.proofs.lemmas.Option.{slice_get-map, slice_get_within, get_or_from_slice_get}
 use Rattle.std.proofs.Math.ListN.{get_or-map}
-use Rattle.mix_word.specs.declared.register.DataReg.{DataReg}
-use Rattle.mix_word.specs.declared.register.DataReg.TheVariants.{A, I1, I2, I3, I4, I5, I6, X}
-use Rattle.mix_word.specs.declared.operation.ShiftKind.{ShiftKind}
-use Rattle.mix_word.specs.declared.operation.ShiftKind.TheVariants.{Sla}
-use Rattle.mix_word.specs.declared.operation.JumpKind.{JumpKind}
-use Rattle.mix_word.specs.declared.operation.JumpKind.TheVariants.{Jmp}
-use Rattle.mix_word.specs.declared.operation.Condition.{Condition}
-use Rattle.mix_word.specs.declared.operation.Condition.TheVariants.{Negative}
-use Rattle.mix_word.specs.declared.operation.Operation.{Operation}
-use Rattle.mix_word.specs.declared.operation.Operation.TheVariants.{Shift, Load, LoadNegated, Store, Jump, RegisterJump, Increase, Decrease, Enter, EnterNegated, Compare}
-use Rattle.mix_word.specs.Register.{offset_of}
+use Rattle.mix_word.specs.Prelude.{DataReg, A, I1, I2, I3, I4, I5, I6, X, ShiftKind, Sla, JumpKind, Jmp, Condition, Negative, Operation, Shift, Load, LoadNegated, Store, Jump, RegisterJump, Increase, Decrease, Enter, EnterNegated, Compare, offset_of, operations}
 use Rattle.mix_word.specs.Operation.{number_of_shift, number_of_jump, number_of_condition}
-use Rattle.mix_word.specs.Table.{operations}
 
 pub at_shift : (kind : ShiftKind) (n : ℕ) → n ≡ number_of_shift kind → slice_get operations (8 + n) ≡ Some (Shift kind)
 unfolding operations

@@ -2,18 +2,8 @@
 use Rattle.std.proofs.Common.{◌≡◌, ◌↔◌, ◌⊎◌, inl, inr, ℕ, zero, suc, cond, ◌-◌, ◌+◌, ◌<◌, ◌≤◌, true, false, ◌==◌, IsTrue, Option, Some, None, refl, subst, ◌∙◌, sym, arith}
 use Rattle.mix_word.proofs.FindLemmas.{find-none, find-passes}
 use Rattle.std.proofs.lemmas.Bool.Decides.{nat_tests}
-use Rattle.mix_word.specs.Register.{offset_of}
-use Rattle.mix_word.specs.declared.register.DataReg.{DataReg}
-use Rattle.mix_word.specs.declared.register.DataReg.TheVariants.{A, I1, I2, I3, I4, I5, I6, X}
-use Rattle.mix_word.specs.declared.operation.ShiftKind.TheVariants.{Sla}
-use Rattle.mix_word.specs.declared.operation.JumpKind.TheVariants.{Jmp}
-use Rattle.mix_word.specs.declared.operation.Condition.TheVariants.{Negative}
-use Rattle.mix_word.specs.declared.operation.Operation.{Operation}
-use Rattle.mix_word.specs.declared.operation.Operation.TheVariants.{Num, Char, Hlt, Shift, Load, LoadNegated, Store, Jump, RegisterJump, Increase, Decrease, Enter, EnterNegated, Compare}
-use Rattle.mix_word.specs.declared.decoding.Decoded.{Decoded}
-use Rattle.mix_word.specs.declared.decoding.Decoded.TheVariants.{Named, Floating, Unknown}
+use Rattle.mix_word.specs.Prelude.{offset_of, DataReg, A, I1, I2, I3, I4, I5, I6, X, Sla, Jmp, Negative, Operation, Num, Char, Hlt, Shift, Load, LoadNegated, Store, Jump, RegisterJump, Increase, Decrease, Enter, EnterNegated, Compare, Decoded, Named, Floating, Unknown, name_of}
 use Rattle.mix_word.specs.Operation.{operation_code, normal_f_of, is_by_f}
-use Rattle.mix_word.specs.Names.{name_of}
 use Rattle.mix_word.specs.Table.{operations, is_floating, has_code, operation_at, operation_named, decode_of, named_or_unknown, IsNamedBy}
 
 -- ---- each operation is found by its own name, code and F

@@ -1,3 +1,4 @@
+pub mod Prelude
 pub mod Word
 pub mod Packed
 pub mod Register

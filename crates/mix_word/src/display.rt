@@ -1,9 +1,7 @@
 //! How words are written: the sign, and each byte as two digits after a blank. Operations and registers are written by name,
 //! and locations in four digits.
 ghost use Rattle.std.specs.Prelude.{Some, ◌≡◌, ◌<◌, ◌≤◌};
-ghost use Rattle.mix_word.specs.Word.{byte_of};
-ghost use Rattle.mix_word.specs.Names.{name_of};
-ghost use Rattle.mix_word.specs.Register.{name_of_register};
+ghost use Rattle.mix_word.specs.Prelude.{byte_of, name_of, name_of_register};
 ghost use Rattle.mix_word.specs.Text.{sign_text, byte_text, location_text, word_text, short_text};
 
 use crate::operation::Operation;

@@ -1,10 +1,6 @@
 //! What follows from the table of operations alone, for the proofs of other crates.
 ghost use Rattle.std.specs.Prelude.{◌≡◌, ◌<◌, ◌%◌, ◌↔◌, ℕ, List, None, length, IsTrue};
-ghost use Rattle.mix_word.specs.declared.operation.Operation.{Operation};
-ghost use Rattle.mix_word.specs.declared.decoding.Decoded.TheVariants.{Named};
-ghost use Rattle.mix_word.specs.Operation.{operation_code};
-ghost use Rattle.mix_word.specs.Pairs.{number_of_operation, number_of_pair, is_of_register};
-ghost use Rattle.mix_word.specs.Table.{decode_of, operation_named, IsNamedBy};
+ghost use Rattle.mix_word.specs.Prelude.{Operation, Named, operation_code, number_of_operation, number_of_pair, is_of_register, decode_of, operation_named, IsNamedBy};
 
 use crate::naming::MAX_LETTERS;
 

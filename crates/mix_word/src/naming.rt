@@ -3,9 +3,7 @@ ghost use Rattle.std.specs.Prelude.{◌≡◌, ◌<◌, ◌≤◌, ◌↔◌, So
 ghost use Rattle.std.specs.List.{find};
 ghost use Rattle.std.specs.Option.{option_map};
 ghost use Rattle.std.specs.Str.{bytes_eq};
-ghost use Rattle.mix_word.specs.declared.operation.Operation.{Operation};
-ghost use Rattle.mix_word.specs.Names.{name_of};
-ghost use Rattle.mix_word.specs.Table.{operations, operation_named};
+ghost use Rattle.mix_word.specs.Prelude.{Operation, name_of, operations, operation_named};
 
 use crate::operation::Operation;
 use crate::rows::{Row, rows};

@@ -2,8 +2,7 @@
 ghost use Rattle.std.specs.Prelude.{◌≡◌, ◌<◌, Some};
 ghost use Rattle.std.specs.List.{slice_get};
 ghost use Rattle.mix_word.specs.Operation.{operation_code, normal_f_of, time_of, number_of_shift, number_of_jump, number_of_condition};
-ghost use Rattle.mix_word.specs.Names.{name_of};
-ghost use Rattle.mix_word.specs.Table.{operations, decode_of};
+ghost use Rattle.mix_word.specs.Prelude.{name_of, operations, decode_of};
 
 use crate::decoding::Decoded;
 use crate::register::DataReg;

@@ -1,8 +1,6 @@
 //! What each pair (C, F) names, as one number (1.3.1): a table of all 4,096 pairs.
 ghost use Rattle.std.specs.Prelude.{◌≡◌, length};
-ghost use Rattle.mix_word.specs.Word.{parts_of};
-ghost use Rattle.mix_word.specs.Table.{decode_of};
-ghost use Rattle.mix_word.specs.Pairs.{number_of_pair, IsPairTable};
+ghost use Rattle.mix_word.specs.Prelude.{parts_of, decode_of, number_of_pair, IsPairTable};
 
 use crate::word::Word;
 

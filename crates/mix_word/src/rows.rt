@@ -1,8 +1,6 @@
 //! The table of operations (1.3.1): each with its name, its C and its normal F.
 ghost use Rattle.std.specs.Prelude.{◌≡◌, map};
-ghost use Rattle.mix_word.specs.Operation.{operation_code, normal_f_of};
-ghost use Rattle.mix_word.specs.Names.{name_of};
-ghost use Rattle.mix_word.specs.Table.{operations};
+ghost use Rattle.mix_word.specs.Prelude.{operation_code, normal_f_of, name_of, operations};
 
 use crate::operation::{Condition, JumpKind, Operation, ShiftKind};
 use crate::register::DataReg;

@@ -7,12 +7,9 @@ use Rattle.std.specs.Bool.{IsTrue}
 use Rattle.std.proofs.lemmas.Option.{slice_get-map}
 use Rattle.std.proofs.lemmas.List.{length-map, map-append}
 use Rattle.mix_word.specs.Word.{WordValue}
-use Rattle.mixal_asm.specs.declared.key.Key.{Key}
-use Rattle.mixal_asm.specs.declared.words.Entry.{Entry}
+use Rattle.mixal_asm.specs.Prelude.{Key, Entry, waits_for, is_awaited, with_address, first_wait}
 use Rattle.mixal_asm.specs.Key.{same_key, same_key_decides, same_key_equivalence}
-use Rattle.mixal_asm.specs.PassOne.{waits_for, is_awaited, with_address}
 use Rattle.mixal_asm.specs.Assembly.{with_use, first_uses}
-use Rattle.mixal_asm.specs.User.{first_wait}
 use Rattle.std.specs.Map.{lookup, keys_of}
 use Rattle.mixal_asm.specs.Chain.{Link, link_of, links_of, waits_at, last_below, before_of, IsLinked, closed, map_from, after_link, uses_from, IsChained, last_use, held_of, emitted_of, closed_held, IsUsed, Held}
 

@@ -4,17 +4,11 @@ use Rattle.std.specs.Prelude.{slice_get, is_some, Result, Ok, Err, OnOk}
 use Rattle.std.specs.Option.{option_or}
 use Rattle.std.specs.List.{find}
 use Rattle.mixal_asm.specs.Draft.{passes}
-use Rattle.mix_refused.specs.declared.refused.Refused.{Refused}
-use Rattle.mix_refused.specs.declared.refused.Refused.TheVariants.{Fault, Memory}
-use Rattle.mix_refused.specs.Refused.{IfFault}
+use Rattle.mix_refused.specs.Prelude.{Refused, Fault, Memory, IfFault}
 use Rattle.mix_word.specs.Word.{WordValue}
 use Rattle.mixal_text.specs.declared.label.Label.{Label}
 use Rattle.mixal_text.specs.declared.label.Label.TheVariants as label
-use Rattle.mixal_asm.specs.declared.fault.AsmKind.{AsmKind}
-use Rattle.mixal_asm.specs.declared.key.Key.{Key}
-use Rattle.mixal_asm.specs.declared.key.Key.TheVariants.{Name, Literal}
-use Rattle.mixal_asm.specs.Key.{same_key, same_key_decides}
-use Rattle.mixal_asm.specs.PassOne.{Before, NamesSoFar, value_of, is_taken}
+use Rattle.mixal_asm.specs.Prelude.{AsmKind, Key, Name, Literal, same_key, same_key_decides, Before, NamesSoFar, value_of, is_taken}
 use Rattle.mixal_asm.specs.Assembly.{is_own, literal_line, literal_lines, zero_line_for, zero_lines}
 use Rattle.mixal_asm.proofs.TableLemmas.{lookup_push}
 

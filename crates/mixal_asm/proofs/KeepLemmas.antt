@@ -2,19 +2,14 @@
 use Rattle.std.proofs.Common.{◌≡◌, ℕ, suc, ◌+◌, ◌<◌, ◌&&◌, Bool, true, false, List, [], ◌∷◌, ◌++◌, length, Option, Some, None, refl, sym, ap, subst, ◌∙◌, arith, length-append, add-one}
 use Rattle.std.specs.Prelude.{nat_lt, nat_le, Result, Ok, Err}
 use Rattle.mix_word.specs.Word.{WordValue, plus}
-use Rattle.mixal_text.specs.declared.label.Label.{Label}
-use Rattle.mixal_text.specs.Steps.{◌>>=◌}
-use Rattle.mixal_text.specs.WValue.{w_value_of}
+use Rattle.mixal_text.specs.Prelude.{Label, ◌>>=◌, w_value_of, APartValue, address_of}
 use Rattle.mixal_text.specs.Address as apart
-use Rattle.mixal_text.specs.Address.{APartValue, address_of}
-use Rattle.mixal_asm.specs.declared.fault.AsmKind.{AsmKind}
+use Rattle.mixal_asm.specs.Prelude.{AsmKind, Key, HasNoLiteral, IsReady}
 use Rattle.mixal_asm.specs.declared.fault.AsmKind.TheVariants.{AddressTooLarge, LocationOutOfRange}
 use Rattle.mixal_asm.specs.declared.row.Shows.{Shows}
 use Rattle.mixal_asm.specs.declared.row.Shows.TheVariants as shows
-use Rattle.mixal_asm.specs.declared.key.Key.{Key}
 use Rattle.mixal_asm.specs.declared.key.Key.TheVariants as key
 use Rattle.mixal_asm.specs.PassOne.{Before, with_name, with_loc, with_word, with_instruction, with_address, instruction, with_line, number_after, name_of, is_awaited, names_at, of_address, location_of, locals_in, machine_line, equ_line, orig_line, con_line, alf_line}
-use Rattle.mixal_asm.specs.Draft.{HasNoLiteral, IsReady}
 use Rattle.mixal_asm.proofs.LineLemmas.{no_literal_loc}
 
 -- a step that was accepted, and what followed

@@ -5,8 +5,7 @@ use Rattle.std.specs.List.{repeat}
 use Rattle.std.specs.Fmt.{format_spec, padded_integral, char_count, styled_decimal, decimal}
 use Rattle.mixal_asm.specs.declared.row.Row.{Row}
 use Rattle.mixal_asm.specs.PassOne.{RowValue, Line}
-use Rattle.mixal_asm.specs.Program.{ProgramValue}
-use Rattle.mixal_asm.specs.Row.{row_value}
+use Rattle.mixal_asm.specs.Prelude.{ProgramValue, row_value}
 use Rattle.mixal_asm.specs.Listing.{blanks, number_text, source_text, row_text, rows_text}
 
 rows_text-append : (program : ProgramValue) (rows more : List RowValue) → rows_text program (rows ++ more) ≡ rows_text program rows ++ rows_text program more

@@ -3,10 +3,8 @@ use Rattle.std.proofs.Common.{◌≡◌, ℕ, ◌==◌, true, List, [], ◌∷�
 use Rattle.std.proofs.lemmas.Bool.{eqb-true}
 use Rattle.mix_lines.specs.Lines.{lines, lines-nil}
 use Rattle.mixal_asm.specs.declared.fault.AsmKind.TheVariants.{NoEnd}
-use Rattle.mixal_asm.specs.declared.fault.AsmFault.{AsmFault}
-use Rattle.mixal_asm.specs.PassOne.{Before, number_after}
+use Rattle.mixal_asm.specs.Prelude.{AsmFault, Before, number_after, program_with}
 use Rattle.mixal_asm.specs.Assembly.{program_from, fault_at}
-use Rattle.mixal_asm.specs.Faults.{program_with}
 
 pub nothing_in : (text : List ℕ) → (length text == 0) ≡ true → text ≡ []
 nothing_in [] empty = refl

@@ -2,6 +2,7 @@ pub mod Fault
 pub mod Place
 pub mod Key
 pub mod PassOne
+pub mod Prelude
 pub mod Program
 pub mod Row
 pub mod Table

@@ -2,21 +2,14 @@
 use Rattle.std.specs.Prelude.{ℕ, ◌+◌, ◌-◌, ◌==◌, ◌&&◌, nat_lt, not, Bool, true, false, List, [], ◌∷◌, ◌++◌, length, take, drop, map, slice_index, Option, Some, None, Result, Ok, Err, if◌then◌else◌}
 use Rattle.std.specs.List.{count_by, slice_split}
 use Rattle.mix_lines.specs.Lines.{lines, is_comment}
-use Rattle.mixal_text.specs.declared.fault.TextFault.{TextFault}
-use Rattle.mixal_text.specs.declared.label.Label.{Label}
+use Rattle.mixal_text.specs.Prelude.{TextFault, Label, Mnemonic, is_other, op_of_line, local_of, part_span, symbol_of}
 use Rattle.mixal_text.specs.declared.label.Label.TheVariants as label
 use Rattle.mixal_text.specs.declared.local.Direction.{Direction}
 use Rattle.mixal_text.specs.declared.local.Direction.TheVariants.{Here, Backward, Forward}
 use Rattle.mixal_text.specs.declared.local.Local.{Local as LocalSymbol}
 use Rattle.mixal_text.specs.declared.misread.Span.{Span}
-use Rattle.mixal_text.specs.declared.op.Mnemonic.{Mnemonic}
 use Rattle.mixal_text.specs.declared.op.Mnemonic.TheVariants.{Machine, Equ, Orig, Con, Alf, End}
 use Rattle.mixal_text.specs.declared.parts.Part.TheVariants as part
-use Rattle.mixal_text.specs.Atom.{is_other}
-use Rattle.mixal_text.specs.Line.{op_of_line}
-use Rattle.mixal_text.specs.Local.{local_of}
-use Rattle.mixal_text.specs.Parts.{part_span}
-use Rattle.mixal_text.specs.Symbol.{symbol_of}
 use Rattle.mixal_asm.specs.declared.mentioned.Mention.{Mention}
 use Rattle.mixal_asm.specs.declared.mentioned.Name.{Name}
 use Rattle.mixal_asm.specs.declared.mentioned.Name.TheVariants.{Symbol, Local}

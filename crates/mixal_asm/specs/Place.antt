@@ -1,15 +1,11 @@
 -- Which bytes of its line a fault or a warning is about.
 use Rattle.std.specs.Prelude.{ℕ, List, Option, Some, None, Result, Ok}
-use Rattle.mixal_text.specs.declared.fault.TextFault.{TextFault}
+use Rattle.mixal_text.specs.Prelude.{TextFault, Mnemonic, Orig, part_span, op_of_line}
 use Rattle.mixal_text.specs.declared.misread.Span.{Span}
-use Rattle.mixal_text.specs.declared.op.Mnemonic.{Mnemonic}
-use Rattle.mixal_text.specs.declared.op.Mnemonic.TheVariants.{Orig}
 use Rattle.mixal_text.specs.declared.parts.Part.{Part}
 use Rattle.mixal_text.specs.declared.parts.Part.TheVariants as part
 use Rattle.mixal_text.specs.declared.slips.Slip.{Slip}
 use Rattle.mixal_text.specs.declared.slips.Slip.TheVariants.{OperationAsLabel, NoLabel, AlfCut, AlfShort, BlankInAddress, NoField, WrongUnit, NoCell, NegativeShift}
-use Rattle.mixal_text.specs.Parts.{part_span}
-use Rattle.mixal_text.specs.Line.{op_of_line}
 use Rattle.mixal_asm.specs.declared.fault.AsmKind.{AsmKind}
 use Rattle.mixal_asm.specs.declared.fault.AsmKind.TheVariants.{Text, Inserted, DefinedTwice, AddressTooLarge, LocationOutOfRange, NoEnd, StartOutOfRange, SourceTooLong}
 use Rattle.mixal_asm.specs.declared.diagnostic.Warning.{Warning}

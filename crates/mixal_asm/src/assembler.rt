@@ -2,8 +2,7 @@
 ghost use Rattle.std.specs.Prelude.{◌≡◌, ◌<◌, length, true, false, Ok, Err, IfOk};
 ghost use Rattle.mix_refused.specs.Refused.{IfFault};
 ghost use Rattle.mixal_text.specs.Line.{HasBytes, value_of_line};
-ghost use Rattle.mixal_asm.specs.PassOne.{at_first, number_after};
-ghost use Rattle.mixal_asm.specs.Place.{kind_span};
+ghost use Rattle.mixal_asm.specs.Prelude.{at_first, number_after, kind_span};
 ghost use Rattle.mixal_asm.specs.Assembly.{answer_of, answer_of_line, waiting_in};
 ghost use Rattle.mixal_asm.specs.Draft.{HasNoLiteral, IsReady, WaitsFor, answer_at};
 ghost use Rattle.mixal_asm.specs.Fed.{answer_of_fed};

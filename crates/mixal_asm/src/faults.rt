@@ -3,9 +3,7 @@ ghost use Rattle.std.specs.Prelude.{◌≡◌, [], ◌==◌, ◌&&◌, ◌<◌, 
 ghost use Rattle.std.specs.List.{list_any};
 ghost use Rattle.mix_refused.specs.Refused.{IfFault};
 ghost use Rattle.mix_lines.specs.Lines.{lines};
-ghost use Rattle.mixal_asm.specs.PassOne.{at_first};
-ghost use Rattle.mixal_asm.specs.Assembly.{program_at};
-ghost use Rattle.mixal_asm.specs.Draft.{IsReady};
+ghost use Rattle.mixal_asm.specs.Prelude.{at_first, program_at, IsReady};
 ghost use Rattle.mixal_asm.specs.Faults.{is_told, untold, program_with, faults_from, faults_of};
 
 use crate::draft::Draft;

@@ -2,8 +2,7 @@
 ghost use Rattle.std.specs.Prelude.{◌≡◌, ◌<◌, ◌-◌, ◌^◌, ◌++◌, Some, OnOk, IfOk};
 ghost use Rattle.std.specs.Io.KnownBytes.{Appends, Keeps};
 ghost use Rattle.mix_stream.specs.Stream.{AppendsFront, CountsFailure};
-ghost use Rattle.mixal_asm.specs.PassOne.{Line};
-ghost use Rattle.mixal_asm.specs.Row.{row_value, source_value};
+ghost use Rattle.mixal_asm.specs.Prelude.{Line, row_value, source_value};
 ghost use Rattle.mixal_asm.specs.Listing.{blanks, shown_text, source_text, row_text, rows_text, symbols_line, symbol_text, name_text, names_text, symbols_text, listing, IsFault};
 
 use crate::key::Key;

@@ -3,8 +3,7 @@ ghost use Rattle.std.specs.Prelude.{◌≡◌, ◌==◌, Ok, Err, IfOk};
 ghost use Rattle.std.specs.List.{list_any};
 ghost use Rattle.mix_refused.specs.Refused.{IfFault};
 ghost use Rattle.mixal_text.specs.Line.{HasBytes, loc_of_line, value_of_line};
-ghost use Rattle.mixal_asm.specs.PassOne.{number_after};
-ghost use Rattle.mixal_asm.specs.Place.{kind_span};
+ghost use Rattle.mixal_asm.specs.Prelude.{number_after, kind_span};
 ghost use Rattle.mixal_asm.specs.Draft.{HasNoLiteral, IsReady, WaitsFor, answer_at};
 ghost use Rattle.mixal_asm.specs.Faults.{kept_loc, plain_line, mended_line, mended_answer, is_mended, answer_with};
 

@@ -2,8 +2,7 @@
 ghost use Rattle.std.specs.Prelude.{◌≡◌, ◌≤◌, ◌<◌, ◌+◌, ◌^◌, ◌-◌, ℕ, List, [], ◌∷◌, ◌++◌, length, slice_index, IfOk, OnOk};
 ghost use Rattle.std.specs.List.{slice_split};
 ghost use Rattle.mix_lines.specs.Lines.{lines};
-ghost use Rattle.mixal_text.specs.Atom.{is_other};
-ghost use Rattle.mixal_text.specs.Line.{op_of_line};
+ghost use Rattle.mixal_text.specs.Prelude.{is_other, op_of_line};
 ghost use Rattle.mixal_asm.specs.Diagnose.{label_of, up_to_end};
 ghost use Rattle.mixal_asm.specs.Mentions.{has_names, is_alf, line_mentions, local_used, mention_if, mentions_after, mentions_of, name_defined, name_used, next_locals, uses_from};
 

@@ -1,9 +1,7 @@
 //! An assembled source (1.3.2): what it gives to the machine, and what its names mean.
 ghost use Rattle.std.specs.Prelude.{◌≡◌};
-ghost use Rattle.mixal_asm.specs.declared.key.Key.TheVariants.{Name};
+ghost use Rattle.mixal_asm.specs.Prelude.{Name, value_of, names_at, source_value, row_value};
 ghost use Rattle.std.specs.Option.{option_map};
-ghost use Rattle.mixal_asm.specs.PassOne.{value_of, names_at};
-ghost use Rattle.mixal_asm.specs.Row.{source_value, row_value};
 ghost use Rattle.mixal_asm.specs.Source.{source_at, word_at, cell_from, line_defining, symbols_of};
 
 use crate::index::{Index, first_from};

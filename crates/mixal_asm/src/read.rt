@@ -2,8 +2,7 @@
 ghost use Rattle.std.specs.Prelude.{◌≡◌, ◌<◌, ◌≤◌, ◌-◌, ◌^◌, None, Ok, Err, IfOk, MatchResult};
 ghost use Rattle.mix_word.specs.Word.{plus};
 ghost use Rattle.mixal_text.specs.Address.{IsMachine, address_of, f_of, value_of_a_part, value_of_operand};
-ghost use Rattle.mixal_text.specs.WValue.{w_value_of};
-ghost use Rattle.mixal_text.specs.Misread.{IsWithin};
+ghost use Rattle.mixal_text.specs.Prelude.{w_value_of, IsWithin};
 ghost use Rattle.mixal_asm.specs.PassOne.{in_line, of_address};
 ghost use Rattle.mixal_asm.specs.Assembly.{of_literal};
 ghost use Rattle.mixal_asm.specs.User.{after_equals};

@@ -2,9 +2,7 @@
 ghost use Rattle.std.specs.Prelude.{◌≡◌, [], Ok, Err, IfOk};
 ghost use Rattle.mix_refused.specs.Refused.{IfFault};
 ghost use Rattle.mix_lines.specs.Lines.{lines};
-ghost use Rattle.mixal_asm.specs.Place.{kind_span};
-ghost use Rattle.mixal_asm.specs.Assembly.{assembly, program_from, program_at};
-ghost use Rattle.mixal_asm.specs.Draft.{IsReady};
+ghost use Rattle.mixal_asm.specs.Prelude.{kind_span, assembly, program_from, program_at, IsReady};
 
 use crate::assembler::add_line;
 use crate::draft::Draft;

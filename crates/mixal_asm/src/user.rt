@@ -1,8 +1,7 @@
 //! The line that a fault at END is about (1.3.2).
 ghost use Rattle.std.specs.Prelude.{◌≡◌, ◌^◌, map, option_map, position};
 ghost use Rattle.mixal_text.specs.Misread.{IsWithin};
-ghost use Rattle.mixal_asm.specs.PassOne.{waits_for};
-ghost use Rattle.mixal_asm.specs.Row.{row_value, source_value};
+ghost use Rattle.mixal_asm.specs.Prelude.{waits_for, row_value, source_value};
 ghost use Rattle.mixal_asm.specs.User.{at_use, line_of_word, numbered, shows_word, user_of};
 
 use crate::draft::Draft;

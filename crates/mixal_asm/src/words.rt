@@ -1,8 +1,7 @@
 //! The emitted words (1.3.2). Those that wait for a name are linked into its chain.
 ghost use Rattle.std.specs.Prelude.{◌≡◌, ◌<◌, ◌≤◌, ◌+◌, ◌++◌, [], ◌∷◌, length, map, slice_get, count_by, option_copied, IfSome, IsTrue, IfOk, OnOk, OnErr, vec_len, vec_capacity};
-ghost use Rattle.mixal_asm.specs.PassOne.{is_awaited, with_address};
+ghost use Rattle.mixal_asm.specs.Prelude.{is_awaited, with_address, first_wait};
 ghost use Rattle.mixal_asm.specs.Assembly.{first_uses, references_in, is_reference, is_waiting};
-ghost use Rattle.mixal_asm.specs.User.{first_wait};
 ghost use Rattle.mixal_asm.specs.Chain.{IsLinked, IsUsed, closed, last_below, last_use, links_of};
 
 use crate::key::Key;

@@ -1,7 +1,6 @@
 -- What no layout alters: what a line says, and what is written in it.
 use Rattle.std.specs.Prelude.{◌≡◌, ℕ, Bool, true, false, List, [], ◌∷◌, filter}
-use Rattle.mixal_text.specs.Line.{line_of}
-use Rattle.mixal_text.specs.Words.{is_nonblank}
+use Rattle.mixal_text.specs.Prelude.{line_of, is_nonblank}
 
 -- the bytes of a line that are no blanks, in their order
 abbrev pub written : List ℕ → List ℕ

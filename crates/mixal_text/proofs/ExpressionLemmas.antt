@@ -3,15 +3,10 @@ use Rattle.std.proofs.Common.{Bool, true, false, ◌≡◌, ℕ, zero, suc, ◌+
 use Rattle.std.specs.Prelude.{◌==◌}
 use Rattle.std.specs.List.{before_first, position_or_len}
 use Rattle.std.proofs.lemmas.List.{length-drop, length-take}
-use Rattle.mix_word.specs.Word.{WordValue}
-use Rattle.mixal_text.specs.declared.misread.Misread.{Misread}
-use Rattle.mixal_text.specs.Misread.{or_at}
+use Rattle.mix_word.specs.Prelude.{WordValue, Sign, Plus, Minus}
+use Rattle.mixal_text.specs.Prelude.{Misread, or_at, ◌>>=◌, NamesValue}
 use Rattle.mixal_text.specs.declared.operator.Operator.{Operator}
 use Rattle.mixal_text.specs.declared.operator.Operator.TheVariants.{Add, Subtract, Multiply, Divide, Fraction, Field}
-use Rattle.mix_word.specs.declared.word.Sign.{Sign}
-use Rattle.mix_word.specs.declared.word.Sign.TheVariants.{Plus, Minus}
-use Rattle.mixal_text.specs.Steps.{◌>>=◌}
-use Rattle.mixal_text.specs.Names.{NamesValue}
 use Rattle.mixal_text.specs.Operator.{operator_at, operator_length, outcome_of}
 use Rattle.mixal_text.specs.Atom.{is_other, atom_in, atom_value}
 use Rattle.mixal_text.specs.Expression.{Term, sign_at, sign_length, term_length, terms_from, terms_in, terms_of, expression_in, value_after_sign, operated_at, terms_at, expression_at}

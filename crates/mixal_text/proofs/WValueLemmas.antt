@@ -2,10 +2,7 @@
 use Rattle.std.proofs.Common.{◌≡◌, refl, sym, ap, ◌∙◌, ℕ, ◌+◌, ◌-◌, ◌≤◌, List, ◌∷◌, Option, Some, None, Result, Ok, Err, length, arith}
 use Rattle.std.specs.List.{slice_split}
 use Rattle.mix_word.specs.Word.{WordValue}
-use Rattle.mixal_text.specs.declared.misread.Misread.{Misread}
-use Rattle.mixal_text.specs.Names.{NamesValue}
-use Rattle.mixal_text.specs.Part.{is_comma}
-use Rattle.mixal_text.specs.Words.{pieces_of, length_with_one}
+use Rattle.mixal_text.specs.Prelude.{Misread, NamesValue, is_comma, pieces_of, length_with_one}
 use Rattle.mixal_text.specs.WValue.{put_piece, put_pieces}
 
 -- what the pieces that are left, if any are, of a text of so many bytes make of a word

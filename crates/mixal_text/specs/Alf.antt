@@ -1,8 +1,7 @@
 -- ALF (1.3.2): a word of five characters, between quotation marks or at their place in the line.
 use Rattle.std.specs.Prelude.{ℕ, ◌+◌, ◌*◌, ◌==◌, nat_le, Bool, List, [], ◌∷◌, ◌++◌, length, take, Some, codes, ok_or, Result, Ok, Err, if◌then◌else◌}
 use Rattle.std.specs.List.{list_any, before_first}
-use Rattle.mix_word.specs.Word.{WordValue, plus}
-use Rattle.mix_word.specs.Characters.{character_code}
+use Rattle.mix_word.specs.Prelude.{WordValue, plus, character_code}
 use Rattle.mix_lines.specs.Lines.{is_blank}
 use Rattle.mixal_text.specs.declared.fault.TextFault.{TextFault}
 use Rattle.mixal_text.specs.declared.fault.TextFault.TheVariants.{BadByte, BadAlf}

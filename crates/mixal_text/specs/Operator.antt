@@ -1,7 +1,6 @@
 -- The binary operations of an expression (1.3.2), each on two words. An overflow, or no quotient, is a fault.
 use Rattle.std.specs.Prelude.{ℕ, ◌==◌, Bool, List, [], ◌∷◌, Option, Some, None, Result, Ok, Err, if◌then◌else◌}
-use Rattle.mix_word.specs.Word.{WordValue, word, plus, zero_word, negation_of}
-use Rattle.mix_word.specs.Arithmetic.{sum_of, product_of, quotient_of}
+use Rattle.mix_word.specs.Prelude.{WordValue, word, plus, zero_word, negation_of, sum_of, product_of, quotient_of}
 use Rattle.mixal_text.specs.declared.fault.TextFault.{TextFault}
 use Rattle.mixal_text.specs.declared.fault.TextFault.TheVariants.{ExpressionOverflow}
 use Rattle.mixal_text.specs.declared.operator.Operator.{Operator}

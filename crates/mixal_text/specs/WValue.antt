@@ -1,8 +1,7 @@
 -- W-values (1.3.2): E1(F1),E2(F2),.. Each expression is put into its field of a word that is +0 at first, in turn.
 use Rattle.std.specs.Prelude.{ℕ, ◌+◌, length, List, [], ◌∷◌, unwrap_or, Result, Ok}
 use Rattle.std.specs.List.{slice_split, before_first}
-use Rattle.mix_word.specs.Word.{WordValue, zero_word}
-use Rattle.mix_word.specs.Field.{field, field_of, put_field_of}
+use Rattle.mix_word.specs.Prelude.{WordValue, zero_word, field, field_of, put_field_of}
 use Rattle.mixal_text.specs.declared.misread.Misread.{Misread}
 use Rattle.mixal_text.specs.Steps.{◌>>=◌}
 use Rattle.mixal_text.specs.Names.{NamesValue}

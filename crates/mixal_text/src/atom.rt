@@ -1,9 +1,7 @@
 //! Atomic expressions (1.3.2): numbers, symbols, and the asterisk.
 ghost use Rattle.std.specs.Prelude.{◌≡◌, ◌≤◌, ◌∷◌, ◌+◌, drop, length, option_copied, position};
 ghost use Rattle.std.specs.List.{position_or_len, slice_split};
-ghost use Rattle.mixal_text.specs.Words.{pieces_of, length_with_one};
-ghost use Rattle.mixal_text.specs.Local.{local_of};
-ghost use Rattle.mixal_text.specs.Symbol.{symbol_of};
+ghost use Rattle.mixal_text.specs.Prelude.{pieces_of, length_with_one, local_of, symbol_of};
 ghost use Rattle.mixal_text.specs.Atom.{is_other, atom_in, atom_value, number_or_fault, local_value, symbol_value};
 ghost use Rattle.mix_lines.specs.Number.{decimal_number};
 

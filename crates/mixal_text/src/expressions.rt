@@ -1,8 +1,6 @@
 //! Expressions (1.3.2): atoms and operators, worked out strictly from left to right.
 ghost use Rattle.std.specs.Prelude.{◌≡◌, ◌≤◌, ◌<◌, ◌+◌, ◌-◌, ◌^◌, IfErr, MatchResult, drop, length};
-ghost use Rattle.mixal_text.specs.Atom.{atom_value};
-ghost use Rattle.mixal_text.specs.Operator.{outcome_of};
-ghost use Rattle.mixal_text.specs.Misread.{IsWithin, or_at};
+ghost use Rattle.mixal_text.specs.Prelude.{atom_value, outcome_of, IsWithin, or_at};
 ghost use Rattle.mixal_text.specs.Expression.{expression_at, expression_of, whole_at, whole_expression, sign_at, sign_length, value_after_sign};
 
 use crate::atom::{atom_value, split_atom};

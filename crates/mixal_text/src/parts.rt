@@ -1,9 +1,8 @@
 //! Where in a line its parts stand, and which bytes of a part are at fault (1.3.2).
 ghost use Rattle.std.specs.Prelude.{◌≡◌, ◌≤◌, ◌-◌, length};
 ghost use Rattle.std.specs.List.{before_first};
-ghost use Rattle.mixal_text.specs.Words.{after_blanks};
+ghost use Rattle.mixal_text.specs.Prelude.{after_blanks, IsWithin};
 ghost use Rattle.mixal_text.specs.Alf.{is_quote};
-ghost use Rattle.mixal_text.specs.Misread.{IsWithin};
 ghost use Rattle.mixal_text.specs.Parts.{a_part_span, after_open, f_span, span_in, alf_text, alf_piece, address_span_by, address_span, operation_span, part_misread, part_span, joined, narrowed};
 
 use crate::alf::{alf_start, quote_in};

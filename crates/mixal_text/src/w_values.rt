@@ -2,10 +2,9 @@
 ghost use Rattle.std.specs.Prelude.{◌≡◌, ◌∷◌, ◌<◌, ◌+◌, ◌^◌, IfErr, length, option_copied, position};
 ghost use Rattle.std.specs.List.{slice_split};
 ghost use Rattle.mix_word.specs.Field.{field_of};
-ghost use Rattle.mixal_text.specs.Misread.{IsWithin};
+ghost use Rattle.mixal_text.specs.Prelude.{IsWithin, pieces_of, length_with_one};
 ghost use Rattle.mixal_text.specs.Part.{brackets_at, is_comma};
 ghost use Rattle.mixal_text.specs.WValue.{put_piece, w_value_of};
-ghost use Rattle.mixal_text.specs.Words.{pieces_of, length_with_one};
 
 use crate::cut::{after_close, split_at_bracket, split_at_close};
 use crate::expressions::whole_at;

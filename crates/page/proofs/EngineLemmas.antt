@@ -2,8 +2,8 @@
 use Rattle.std.proofs.Common.{◌≡◌, inl, ℕ, Some, Result, Ok, List, [], ◌∷◌, length, true, refl, subst, arith}
 use Rattle.std.specs.Prelude.{◌==◌}
 use Rattle.std.proofs.lemmas.Bool.{eqb-true}
-use Rattle.dap_stream.specs.declared.broken.Broken.{Broken}
-use Rattle.dap_stream.proofs.Talking.{talks-none}
+use Rattle.rpc_stream.specs.declared.broken.Broken.{Broken}
+use Rattle.rpc_stream.proofs.Talking.{talks-none}
 use Rattle.mix_dap.specs.Dialogue.{Exchanges, GoesOnAs, Reached, Stage, debugs, done, waiting}
 use Rattle.page.specs.Engine.{Asks, EngineValue}
 

@@ -4,8 +4,8 @@ use Rattle.std.proofs.Math.Seq.{drop-append_seam, take-append_seam, drop-append-
 use Rattle.std.proofs.lemmas.Bool.{eqb-false, eqb-true}
 use Rattle.std.proofs.lemmas.List.{drop-drop}
 use Rattle.std.specs.Prelude.{◌==◌}
-use Rattle.dap_stream.specs.declared.broken.Broken.{Broken}
-use Rattle.dap_stream.specs.declared.broken.Broken.TheVariants as broken
+use Rattle.rpc_stream.specs.declared.broken.Broken.{Broken}
+use Rattle.rpc_stream.specs.declared.broken.Broken.TheVariants as broken
 use Rattle.mix_dap.specs.Dialogue.{DialogueAs, TellsBroken}
 use Rattle.page.specs.Talk.{TalksAs, reported_by}
 use borrow.Rule.Slice.PartMut.{post_of}

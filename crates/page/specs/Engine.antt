@@ -1,7 +1,7 @@
 -- An engine: a dialogue that stays between two calls.
 use Rattle.std.specs.Prelude.{◌≡◌, ◌<◌, ◌≤◌, ℕ, List, [], Option, None, Some, Result, Ok, Err, length, take, drop}
-use Rattle.dap_stream.specs.declared.broken.Broken.{Broken}
-use Rattle.dap_stream.specs.declared.broken.Broken.TheVariants as broken
+use Rattle.rpc_stream.specs.declared.broken.Broken.{Broken}
+use Rattle.rpc_stream.specs.declared.broken.Broken.TheVariants as broken
 use Rattle.mix_dap.specs.Dialogue.{GoesOnAs, Reached, at_first}
 
 pub record EngineValue : Type 0 where

@@ -1,8 +1,7 @@
 -- A talk with a client all of whose bytes are there when it begins.
 use Rattle.std.specs.Prelude.{◌≡◌, ◌⊎◌, ◌==◌, ℕ, List, [], Some, Ok, Err, length, if◌then◌else◌}
-use Rattle.dap_stream.specs.Broken.{broken_text}
-use Rattle.dap_stream.specs.declared.broken.Broken.{Broken}
-use Rattle.dap_stream.specs.declared.broken.Broken.TheVariants as broken
+use Rattle.rpc_stream.specs.Prelude.{broken_text, Broken}
+use Rattle.rpc_stream.specs.declared.broken.Broken.TheVariants as broken
 use Rattle.mix_dap.specs.Dialogue.{DialogueAs, TellsBroken, line_of}
 
 -- the dialogue over these bytes reached its end: this is what the client was sent, and nothing was reported

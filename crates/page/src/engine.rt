@@ -4,9 +4,9 @@ ghost use Rattle.mix_dap.specs.Dialogue.{at_first};
 ghost use Rattle.page.specs.Engine.{Asks, IsGiven};
 
 use crate::put_both;
-use dap_stream::Broken;
 use mix_dap::{Dialogue, NoLibrary};
 use mix_stream::Counted;
+use rpc_stream::Broken;
 use std::alloc::Global;
 use std::marker::Model;
 use std::mem::replace;

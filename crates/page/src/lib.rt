@@ -2,8 +2,8 @@
 #![tactic(auto)]
 
 ghost use Rattle.std.specs.Prelude.{◌≡◌, ◌≢◌, ◌↔◌, ◌⊎◌, ◌+◌, ◌++◌, ◌<◌, ◌≤◌, None, Some, true, false, length, take, drop};
-ghost use Rattle.dap_stream.specs.Broken.{broken_text};
-ghost use Rattle.dap_stream.specs.declared.broken.Broken.TheVariants as broken;
+ghost use Rattle.rpc_stream.specs.Broken.{broken_text};
+ghost use Rattle.rpc_stream.specs.declared.broken.Broken.TheVariants as broken;
 ghost use Rattle.mix_dap.specs.Dialogue.{line_of};
 ghost use Rattle.page.specs.Engine.{Answered, Closed, Closes, Waits, opened, status_of};
 ghost use Rattle.page.specs.Talk.{IsServed, IsBroken, TalksAs, TalksFor, reported_by};
@@ -12,11 +12,11 @@ mod engine;
 mod handle;
 mod held;
 
-use dap_stream::Broken;
 use engine::Engine;
 use handle::Handle;
 use mix_dap::{NoLibrary, serve_from};
 use mix_stream::Counted;
+use rpc_stream::Broken;
 use std::alloc::Global;
 use std::mem::replace;
 

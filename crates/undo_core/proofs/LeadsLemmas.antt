@@ -1,8 +1,7 @@
 -- What the old values of a journal lead to: the replay of its changes, their count, and the first state.
 use Rattle.std.proofs.Common.{◌≡◌, ℕ, ◌-◌, List, [], ◌∷◌, ◌++◌, length, take, drop, reverse, Option, Some, Result, refl, sym, ◌∙◌, ap, arith, length-append}
 use Rattle.std.proofs.lemmas.List.{reverse-append, take-append-drop, length-take-le}
-use Rattle.undo_core.specs.Counts.{total}
-use Rattle.undo_core.specs.Replay.{replay, count_kept, put_back}
+use Rattle.undo_core.specs.Prelude.{total, replay, count_kept, put_back}
 use Rattle.undo_core.specs.Leads.{Leads}
 use Rattle.undo_core.proofs.CountLemmas.{total-last}
 use Rattle.undo_core.proofs.ReplayLemmas.{replay-append_some, count_kept-append, put_back-append}

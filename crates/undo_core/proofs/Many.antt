@@ -2,13 +2,7 @@
 use Rattle.std.proofs.Common.{◌≡◌, ℕ, zero, suc, ◌+◌, ◌-◌, Bool, true, List, [], ◌∷◌, ◌++◌, length, take, drop, replicate, Option, Some, Result, Ok, refl, sym, ◌∙◌, ap, arith, length-append, append_assoc}
 use Rattle.std.proofs.Math.Seq.{take-append_seam, drop-append_seam}
 use Rattle.std.proofs.lemmas.List.{append-nil, take_all, length-take-le}
-use Rattle.undo_core.specs.Counts.{IsPart}
-use Rattle.undo_core.specs.Runs.{items_of, IsRising}
-use Rattle.undo_core.specs.declared.runs.Run.{Run}
-use Rattle.undo_core.specs.History.{History}
-use Rattle.undo_core.specs.Replay.{replay, put_back, unwound}
-use Rattle.undo_core.specs.Repeat.{Repeats}
-use Rattle.undo_core.specs.Leads.{IsStored}
+use Rattle.undo_core.specs.Prelude.{IsPart, items_of, IsRising, Run, History, replay, put_back, unwound, Repeats, IsStored}
 use Rattle.undo_core.proofs.Repeating.{repeats-undone}
 use Rattle.undo_core.proofs.Sound.{done_by}
 use Rattle.undo_core.proofs.Stored.{stored_go, stored_first, stored_within}

@@ -4,8 +4,7 @@ use Rattle.std.specs.Option.{option_and_then}
 use Rattle.std.specs.Result.{result_ok}
 use Rattle.std.proofs.Math.Seq.{take-append_seam}
 use Rattle.std.proofs.lemmas.List.{take-append-drop, take_more}
-use Rattle.undo_core.specs.Replay.{replay, unwound}
-use Rattle.undo_core.specs.Leads.{IsSound}
+use Rattle.undo_core.specs.Prelude.{replay, unwound, IsSound}
 use Rattle.undo_core.proofs.ReplayLemmas.{replay-append_some}
 use Rattle.undo_core.proofs.Sound.{sound_replay}
 

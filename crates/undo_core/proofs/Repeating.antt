@@ -1,8 +1,7 @@
 -- What is true of a change that is done again and again.
 use Rattle.std.proofs.Common.{◌≡◌, ℕ, zero, suc, ◌<◌, Bool, List, ◌++◌, Option, Some, Result, Ok, IsOk, refl, ◌∙◌, ap, arith}
 use Rattle.std.proofs.lemmas.List.{append-nil}
-use Rattle.undo_core.specs.Repeat.{Repeats}
-use Rattle.undo_core.specs.Replay.{put_back}
+use Rattle.undo_core.specs.Prelude.{Repeats, put_back}
 use Rattle.undo_core.proofs.ReplayLemmas.{put_back-append}
 
 module _ {S C F O : Type 0} (real : S → C → Type 0) (gives : S → C → Result S F) (keeps : S → C → List O) (goes : S → C → Bool) (c : C) where

@@ -1,8 +1,7 @@
 -- Values put back some at a time: which of a change they are, and the state after them.
 use Rattle.std.proofs.Common.{◌≡◌, ◌∙◌, ℕ, zero, suc, ◌+◌, ◌-◌, ◌<◌, ◌≤◌, Bool, false, List, length, take, drop, reverse, Option, Some, sym, ap, subst, arith}
 use Rattle.std.proofs.lemmas.List.{take_all}
-use Rattle.undo_core.specs.Counts.{newest_part, is_ended}
-use Rattle.undo_core.specs.Replay.{put_back}
+use Rattle.undo_core.specs.Prelude.{newest_part, is_ended, put_back}
 use Rattle.undo_core.proofs.Ending.{part-on}
 use Rattle.undo_core.proofs.Reverting.{later-put, cut-length, front-reversed}
 

@@ -2,8 +2,7 @@
 use Rattle.std.proofs.Common.{◌≡◌, ℕ, true, false, nat_lt, zero, suc, ◌+◌, ◌-◌, ◌<◌, ◌≤◌, List, [], ◌∷◌, ◌++◌, length, take, drop, get_or, set, replicate, subst, refl, sym, ◌∙◌, ap, arith, length-append, append_assoc}
 use Rattle.std.proofs.lemmas.List.{append-nil, length-replicate, replicate-append-replicate, take-append-drop, take-append-le, take-replicate, get_or-append_right, get_or_append_left, get_or-replicate, drop_more, length-take-le, take_all, take_more, drop_all, set_split, take-take, get_or-take, get_or_default}
 use Rattle.std.proofs.lemmas.Bool.Decides.{nat_tests}
-use Rattle.undo_core.specs.Runs.{items_of, IsRising, end_of}
-use Rattle.undo_core.specs.declared.runs.Run.{Run}
+use Rattle.undo_core.specs.Prelude.{items_of, IsRising, end_of, Run}
 
 -- the first items of two lists, as many as the first has and more
 take-join : {A : Type 0} (xs ys : List A) (k n : ℕ) → length xs + k ≡ n → take n (xs ++ ys) ≡ xs ++ take k ys

@@ -2,10 +2,7 @@
 use Rattle.std.proofs.Common.{◌≡◌, ℕ, ◌+◌, ◌-◌, ◌<◌, ◌≤◌, Bool, true, false, nat_eq, if◌then◌else◌, List, [], ◌∷◌, ◌++◌, length, reverse, take, drop, get_or, Option, Some, Result, Ok, IsOk, IsSome, refl, sym, ◌∙◌, ap, subst, is_some, arith, length-append}
 use Rattle.std.proofs.lemmas.Bool.Decides.{nat_tests}
 use Rattle.std.proofs.lemmas.List.{length-reverse, length-drop, length-take-le, drop_more, get_or-drop}
-use Rattle.undo_core.specs.Counts.{total, counts_in, open_in, newest_part, newest_place, places_below, ArePlaces, IsPart, places_after}
-use Rattle.undo_core.specs.Runs.{items_of, IsRising}
-use Rattle.undo_core.specs.declared.runs.Run.{Run}
-use Rattle.undo_core.specs.Replay.{replay, count_kept, put_back, unwound}
+use Rattle.undo_core.specs.Prelude.{total, counts_in, open_in, newest_part, newest_place, places_below, ArePlaces, IsPart, places_after, items_of, IsRising, Run, replay, count_kept, put_back, unwound}
 use Rattle.undo_core.specs.Leads.{IsStored, IsRead}
 use Rattle.undo_core.proofs.Ending.{fewer, part-open, place-below}
 use Rattle.undo_core.proofs.Parting.{parted_go, parted_some, parted_places, parted_back}

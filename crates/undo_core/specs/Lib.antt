@@ -2,6 +2,7 @@ pub mod Counts
 pub mod History
 pub mod Leads
 pub mod Pack
+pub mod Prelude
 pub mod Repeat
 pub mod Replay
 pub mod Runs

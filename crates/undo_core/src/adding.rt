@@ -1,7 +1,6 @@
 //! A change that was done, added to those before it.
 ghost use Rattle.std.specs.Prelude.{◌≡◌, ◌+◌, ◌-◌, ◌<◌, ◌≤◌, ◌^◌, ◌++◌, [], ◌∷◌, length, take, get_or, replicate, vec_len, vec_capacity, IsTrue, OnOk, OnErr};
-ghost use Rattle.undo_core.specs.Counts.{places_after};
-ghost use Rattle.undo_core.specs.Runs.{items_of, IsRising};
+ghost use Rattle.undo_core.specs.Prelude.{places_after, items_of, IsRising};
 
 use crate::places::note_end;
 use crate::runs::{Run, append, count_in, cut, lengthen};

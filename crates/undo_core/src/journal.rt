@@ -2,8 +2,7 @@
 ghost use Rattle.std.specs.Prelude.{◌≡◌, ◌+◌, ◌-◌, ◌<◌, ◌≤◌, ◌^◌, ◌⊎◌, ◌↔◌, ◌++◌, [], ◌∷◌, List, true, false, length, replicate, take, drop, get_or, vec_len, vec_capacity, Some, Ok, Err, IsOk, IsSome, IsTrue, OnOk, OnErr, IfOk};
 ghost use Rattle.std.specs.Bool.{OnFalse};
 ghost use Rattle.mix_refused.specs.Refused.{IfFault, IfMemory};
-ghost use Rattle.undo_core.specs.Repeat.{Repeats, goes_unless};
-ghost use Rattle.undo_core.specs.Replay.{replay, count_kept, put_back};
+ghost use Rattle.undo_core.specs.Prelude.{Repeats, goes_unless, replay, count_kept, put_back};
 
 use crate::adding::{add, add_many};
 use crate::changes::Changes;

@@ -1,7 +1,6 @@
 //! The old values that changes keep, in units of 32 bits.
 ghost use Rattle.std.specs.Prelude.{◌≡◌, ◌+◌, ◌-◌, ◌<◌, ◌≤◌, ◌^◌, ◌++◌, [], ◌∷◌, Some, IsSome, length, take, drop, reverse, MatchOption, OnOk, OnErr};
-ghost use Rattle.undo_core.specs.Counts.{newest_part};
-ghost use Rattle.undo_core.specs.Replay.{put_back};
+ghost use Rattle.undo_core.specs.Prelude.{newest_part, put_back};
 
 use crate::pack::{Pack, PackAll};
 use crate::undo::Undo;

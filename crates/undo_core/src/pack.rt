@@ -1,7 +1,6 @@
 //! Values that can be kept in units of 32 bits, one after the other.
 ghost use Rattle.std.specs.Prelude.{◌≡◌, ◌+◌, ◌*◌, ◌<◌, ◌≤◌, ℕ, Bool, true, ◌++◌, [], ◌∷◌, List, MatchOption, length, take, reverse, refl, vec_len, vec_capacity};
-ghost use Rattle.undo_core.specs.Counts.{is_ended};
-ghost use Rattle.undo_core.specs.Pack.{unit_list};
+ghost use Rattle.undo_core.specs.Prelude.{is_ended, unit_list};
 ghost use Rattle.std.proofs.Common.{arith};
 
 /// A value that takes at most three units of 32 bits. What units say is read from the last one backwards, whatever they are, by an anchor:

@@ -1,9 +1,7 @@
 //! A state whose changes can be taken back by the values that they overwrote.
 ghost use Rattle.std.specs.Prelude.{◌≡◌, ◌<◌, ◌≤◌, ◌-◌, ◌++◌, ◌⊎◌, Bool, List, Option, Result, Some, Ok, Err, true, false, IsOk, IsSome, IsTrue, OnOk, OnErr, length, take, drop, reverse};
 ghost use Rattle.mix_refused.specs.Refused.{IfFault, IfMemory};
-ghost use Rattle.undo_core.specs.Counts.{IsPart, newest_part};
-ghost use Rattle.undo_core.specs.Repeat.{Repeats, goes_unless};
-ghost use Rattle.undo_core.specs.Replay.{put_back};
+ghost use Rattle.undo_core.specs.Prelude.{IsPart, newest_part, Repeats, goes_unless, put_back};
 
 use crate::kept::Kept;
 use crate::pack::Pack;

@@ -1,7 +1,6 @@
 //! Old values read from the last one backwards, without a copy.
 ghost use Rattle.std.specs.Prelude.{◌≡◌, ◌+◌, ◌-◌, ◌≤◌, ◌++◌, [], ◌∷◌, ◌==◌, ℕ, suc, length, take, drop, reverse, MatchOption};
-ghost use Rattle.undo_core.specs.Counts.{run_of};
-ghost use Rattle.undo_core.specs.Pack.{unit_list};
+ghost use Rattle.undo_core.specs.Prelude.{run_of, unit_list};
 
 use crate::pack::Pack;
 use std::marker::{Model, PhantomData};

@@ -14,10 +14,10 @@ use dap_asked::{
     cell_of_reference, entries_of, integer_in, line_for, number_in, part_named, reference_of,
     source_line, text_in,
 };
-use dap_message::{Fields, Request};
 use mix_machine::Place;
 use mix_refused::Memory;
 use mix_session::{Condition, Session};
+use rpc_message::{Fields, Request};
 use serde_json::{Value, json};
 use std::alloc::Global;
 

@@ -3,9 +3,9 @@
 use crate::points::line::cell_of_line;
 use crate::points::source::is_source;
 use dap_asked::{Fault, line_for, source_line};
-use dap_message::Request;
 use mix_refused::{Memory, Refused};
 use mixal_asm::Program;
+use rpc_message::Request;
 use serde_json::{Value, json};
 use std::alloc::Global;
 

@@ -5,7 +5,7 @@ ghost use Rattle.std.specs.Option.{option_map};
 ghost use Rattle.dap_points.specs.Points.{is_source, is_path_of, is_folder, path_in};
 
 use dap_asked::text_in;
-use dap_message::Request;
+use rpc_message::Request;
 
 /// Whether a request is about the source of this name, which may be the end of its path; where it says no path, it is.
 pub(crate) fn is_source(name: &str, request: &Request) -> bool

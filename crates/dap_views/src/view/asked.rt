@@ -6,10 +6,10 @@ ghost use Rattle.dap_views.specs.Asked.{IsRange};
 use crate::view::decoded::{put_field, put_instruction};
 use crate::view::put_word;
 use dap_asked::{Fault, place_at};
-use dap_message::{Fields, Request, natural};
 use mix_machine::{Place, Sign, Word, World};
 use mix_refused::{Memory, Refused};
 use mix_word::{CELLS, Field, Instruction};
+use rpc_message::{Fields, Request, natural};
 use serde_json::Value;
 use std::alloc::Global;
 

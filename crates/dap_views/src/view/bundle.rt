@@ -1,9 +1,9 @@
 //! `mix/bundle`: the lines of the parts of a text.
 
 use dap_asked::Fault;
-use dap_message::Request;
 use mix_files::{before_script, count_lines, cut};
 use mix_refused::{Memory, Refused};
+use rpc_message::Request;
 use serde_json::{Value, json};
 use std::alloc::Global;
 

@@ -1,8 +1,7 @@
 //! `mix/change`: a change by its number.
 
 ghost use Rattle.std.specs.Prelude.{◌≡◌, ◌-◌, Some};
-ghost use Rattle.mix_session.specs.Change.{world_at};
-ghost use Rattle.mix_session.specs.Client.{change_numbered};
+ghost use Rattle.mix_session.specs.Prelude.{world_at, change_numbered};
 
 mod items;
 
@@ -11,11 +10,11 @@ use crate::view::decoded::field_asked;
 use crate::view::done::{change_kind, put_done};
 use crate::view::put_digits;
 use dap_asked::Fault;
-use dap_message::{Fields, Request};
 use mix_machine::{Change, Conflict, World};
 use mix_refused::{Memory, Refused};
 use mix_session::{Session, change_text, conflict_text};
 use mix_word::Field;
+use rpc_message::{Fields, Request};
 use serde_json::Value;
 use std::alloc::Global;
 

@@ -1,10 +1,10 @@
 //! `mix/check`: what there is to say of a text.
 
 use dap_asked::Fault;
-use dap_message::{Fields, Request};
 use mix_check::{Checked, code, no_halt, no_halt_text, severity};
 use mix_refused::{Memory, Refused};
 use mixal_asm::{Diagnostic, diagnose};
+use rpc_message::{Fields, Request};
 use serde_json::{Value, json};
 use std::alloc::Global;
 

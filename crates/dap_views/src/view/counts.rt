@@ -1,10 +1,10 @@
 //! `mix/counts`: how often each instruction was executed.
 
 use crate::view::put_digits;
-use dap_message::Fields;
 use mix_refused::Memory;
 use mix_session::{Session, Tally};
 use mix_word::CELLS;
+use rpc_message::Fields;
 use serde_json::Value;
 use std::alloc::Global;
 

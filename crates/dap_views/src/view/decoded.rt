@@ -2,10 +2,10 @@
 
 use crate::view::put_number;
 use dap_asked::Fault;
-use dap_message::{Fields, Request};
 use mix_machine::{Place, Reg, Sign, Word, World};
 use mix_refused::{Memory, Refused};
 use mix_word::{Decoded, Field, Operation, Parts, Uses, add, decode};
+use rpc_message::{Fields, Request};
 use serde_json::Value;
 use std::alloc::Global;
 

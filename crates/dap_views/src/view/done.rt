@@ -2,9 +2,9 @@
 
 use crate::view::decoded::put_instruction;
 use dap_asked::cell_at;
-use dap_message::Fields;
 use mix_machine::{Change, World};
 use mix_refused::Memory;
+use rpc_message::Fields;
 use std::alloc::Global;
 
 /// What a change is: a step, or a command by the word with which it begins.

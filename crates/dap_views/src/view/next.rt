@@ -1,20 +1,19 @@
 //! `mix/next`: what one step more would be.
 
 ghost use Rattle.std.specs.Prelude.{◌≡◌, IfOk, Err, Ok};
-ghost use Rattle.mix_machine.specs.Do.{does};
+ghost use Rattle.mix_machine.specs.Prelude.{does, Step};
 ghost use Rattle.mix_refused.specs.Refused.{IfFault};
-ghost use Rattle.mix_machine.specs.declared.old.Change.TheVariants.{Step};
 ghost use Rattle.mix_session.specs.Timeline.{world_of};
 
 use crate::view::change::{Worlds, change_between};
 use crate::view::decoded::field_asked;
 use crate::view::done::{change_kind, put_instruction_here};
 use dap_asked::{Fault, put_exception};
-use dap_message::{Fields, Request};
 use mix_machine::{Change, MixFault, World};
 use mix_refused::{Memory, Refused};
 use mix_session::{Session, change_text};
 use mix_word::Field;
+use rpc_message::{Fields, Request};
 use serde_json::Value;
 use std::alloc::Global;
 use undo_core::{Kept, Undo};

@@ -1,10 +1,10 @@
 //! `mix/path`: where the instructions were executed in the course of the changes, column by column.
 
 use dap_asked::Fault;
-use dap_message::Request;
 use mix_refused::{Memory, Refused};
 use mix_session::{Session, Span};
 use mix_word::CELLS;
+use rpc_message::Request;
 use serde_json::{Value, json};
 use std::alloc::Global;
 

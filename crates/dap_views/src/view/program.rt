@@ -1,10 +1,10 @@
 //! `mix/program`: what was assembled.
 
 use dap_asked::{line_of, place_at};
-use dap_message::Fields;
 use mix_refused::Memory;
 use mix_word::{CELLS, Number};
 use mixal_asm::{Program, Source};
+use rpc_message::Fields;
 use serde_json::{Value, json};
 use std::alloc::Global;
 

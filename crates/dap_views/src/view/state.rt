@@ -4,10 +4,10 @@ use crate::view::asked::{AskedCells, cells, ranges_asked};
 use crate::view::decoded::field_asked;
 use crate::view::{part_name, put_digits, put_register};
 use dap_asked::{Fault, held};
-use dap_message::{Fields, Request};
 use mix_machine::{Change, Reg, World};
 use mix_refused::{Memory, Refused};
 use mix_session::{Altered, Session, alterations};
+use rpc_message::{Fields, Request};
 use serde_json::Value;
 use std::alloc::Global;
 

@@ -5,11 +5,11 @@ mod held;
 use crate::variables::unit_at;
 use crate::view::{put_digits, word_shown};
 use dap_asked::Fault;
-use dap_message::{Fields, Request};
 use held::put_held;
 use mix_machine::{Unit, UnitKind, UnitNo, Word, World};
 use mix_refused::{Memory, Refused};
 use mix_session::was_used;
+use rpc_message::{Fields, Request};
 use serde_json::{Value, json};
 use std::alloc::Global;
 

@@ -2,10 +2,10 @@
 
 use crate::view::{put_digits, put_register, word_shown};
 use dap_asked::{Fault, part_named};
-use dap_message::{Fields, Request};
 use mix_machine::{Cmp, Mark, Part, Word};
 use mix_refused::{Memory, Refused};
 use mix_session::{Session, Write};
+use rpc_message::{Fields, Request};
 use serde_json::Value;
 use std::alloc::Global;
 

@@ -2,8 +2,7 @@
 
 ghost use Rattle.std.specs.Prelude.{◌≡◌, IfOk, OnErr};
 ghost use Rattle.mix_refused.specs.Refused.{IfMemory};
-ghost use Rattle.mix_session.specs.Command.{after, effect_of, effect_of_run, Begun};
-ghost use Rattle.mix_session.specs.Stops.{no_stops};
+ghost use Rattle.mix_session.specs.Prelude.{after, effect_of, effect_of_run, Begun, no_stops};
 ghost use Rattle.mix_session.specs.declared.command.stops.Way.TheVariants as ways;
 ghost use Rattle.mix_session.specs.declared.request.Request.TheVariants.{BackAll};
 ghost use Rattle.dap_asked.specs.Deed.{effect_of_deed};
@@ -16,10 +15,10 @@ ghost use Rattle.dap_points.specs.Written.{Writes, write_asked};
 use crate::adapter::{Adapter, Then};
 use crate::console::is_line;
 use dap_asked::{Act, Deed, Fault, deed_of};
-use dap_message::{Fields, Outbox, Request};
 use dap_points::write_memory;
 use mix_refused::{Memory, Refused};
 use mix_session::{Answer, Session, Stops};
+use rpc_message::{Fields, Outbox, Request};
 
 impl Adapter {
     // What a request asks of the machine is read, done and told.

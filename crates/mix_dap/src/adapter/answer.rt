@@ -2,9 +2,8 @@
 
 ghost use Rattle.std.specs.Prelude.{◌≡◌, ◌⊎◌, [], ◌∷◌, codes, OnOk};
 ghost use Rattle.mix_refused.specs.Refused.{IfMemory};
-ghost use Rattle.mix_dap.specs.Events.{stopped, terminated};
+ghost use Rattle.mix_dap.specs.Prelude.{stopped, terminated, only};
 ghost use Rattle.mix_dap.specs.Replies.{AddsReply, looked};
-ghost use Rattle.mix_dap.specs.Stopped.{only};
 ghost use Rattle.mix_dap.specs.Reaction.{reaction, still};
 ghost use Rattle.mix_dap.specs.Reacts.{AnsweredOr, Begins, KeepsSaid};
 
@@ -12,9 +11,9 @@ use crate::adapter::{Adapter, Then};
 use crate::capabilities::capabilities;
 use crate::event::tell_event;
 use dap_asked::{Fault, Kind, nothing};
-use dap_message::{Outbox, Request};
 use dap_views::given_view;
 use mix_refused::{Memory, Refused};
+use rpc_message::{Outbox, Request};
 use serde_json::Value;
 
 impl Adapter {

@@ -1,10 +1,10 @@
 //! What an evaluation is answered with.
 
 use dap_asked::{evaluated, number_asked, put_fault};
-use dap_message::{Fields, Request};
 use mix_machine::MixFault;
 use mix_refused::Memory;
 use mix_session::Session;
+use rpc_message::{Fields, Request};
 use serde_json::Value;
 use std::alloc::Global;
 

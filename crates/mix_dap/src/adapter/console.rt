@@ -2,7 +2,7 @@
 
 ghost use Rattle.std.specs.Prelude.{◌≡◌, codes, Ok};
 ghost use Rattle.mix_refused.specs.Refused.{IfMemory};
-ghost use Rattle.dap_message.specs.Request.{text_of};
+ghost use Rattle.rpc_message.specs.Request.{text_of};
 ghost use Rattle.mix_dap.specs.Console.{console_asked, console_deed, is_said, line_meant};
 ghost use Rattle.dap_asked.specs.Deed.{effect_of_deed, line_deed};
 ghost use Rattle.mix_dap.specs.Leaves.{BreaksOff, Does};
@@ -13,8 +13,8 @@ use crate::adapter::act::done;
 use crate::adapter::{Adapter, Then};
 use crate::console::{line_meant, said_of};
 use dap_asked::{Deed, Fault, line_deed};
-use dap_message::{Outbox, Request};
 use mix_refused::Refused;
+use rpc_message::{Outbox, Request};
 
 impl Adapter {
     // The line of a request.

@@ -2,14 +2,14 @@
 
 ghost use Rattle.std.specs.Prelude.{◌≡◌, IfOk, OnOk, string_bytes};
 ghost use Rattle.std.specs.Option.{option_map};
-ghost use Rattle.dap_message.specs.Fields.{members_in};
+ghost use Rattle.rpc_message.specs.Fields.{members_in};
 ghost use Rattle.mix_dap.specs.Runs.{is_limit};
 ghost use Rattle.mix_dap.specs.Stopped.{fault_at, put_text, text_of};
 
-use dap_message::Fields;
 use mix_machine::MixFault;
 use mix_refused::Memory;
 use mix_session::{Answer, End};
+use rpc_message::Fields;
 use std::alloc::Global;
 
 /// The text of a stop, where it has one.

@@ -9,8 +9,8 @@ ghost use Rattle.mix_dap.specs.declared.adapter.Then.TheVariants as then;
 use crate::adapter::legs::run_legs;
 use crate::adapter::{Adapter, Then, Way};
 use crate::launch::Opening;
-use dap_message::Outbox;
 use mix_refused::Memory;
+use rpc_message::Outbox;
 
 impl Adapter {
     // The first stop or the first run, as the launch asked.

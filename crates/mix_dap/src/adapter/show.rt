@@ -10,7 +10,6 @@ use dap_asked::{
     Fault, Look, Name, Target, data_breakpoint_info, put_exception, read_memory, scopes,
     stack_trace, threads,
 };
-use dap_message::{Fields, Request};
 use dap_points::{breakpoint_locations, completions_view, disassemble, goto_targets, never};
 use dap_views::{
     change_view, counts_view, next_view, path_view, program_view, state_view, units_view,
@@ -18,6 +17,7 @@ use dap_views::{
 };
 use mix_machine::MixFault;
 use mix_refused::{Memory, Refused};
+use rpc_message::{Fields, Request};
 use serde_json::Value;
 use std::alloc::Global;
 

@@ -3,12 +3,10 @@
 
 ghost use Rattle.std.specs.Prelude.{◌≡◌, [], ◌∷◌, ◌++◌, IfOk, OnOk, None, Some, codes};
 ghost use Rattle.std.specs.Option.{option_map};
-ghost use Rattle.mix_session.specs.Conflicts.{conflict_text};
-ghost use Rattle.mix_session.specs.Timeline.{world_of};
+ghost use Rattle.mix_session.specs.Prelude.{conflict_text, world_of};
 ghost use Rattle.mix_dap.specs.Ended.{end_told, fault_told, over_told};
 ghost use Rattle.mix_dap.specs.Events.{AddsEvents, invalidated, out_of_date, stopped};
-ghost use Rattle.mix_dap.specs.Output.{all_told, outputs};
-ghost use Rattle.mix_dap.specs.Reacts.{Keeps};
+ghost use Rattle.mix_dap.specs.Prelude.{all_told, outputs, Keeps};
 ghost use Rattle.mix_dap.specs.Runs.{before_last, conflict_met, meets_filter, why_of_run, word_at};
 ghost use Rattle.mix_dap.specs.Stopped.{reason_of, fault_at, out_of_memory, why_of, why_with};
 
@@ -17,11 +15,11 @@ use crate::adapter::{Adapter, Way};
 use crate::event::tell_event;
 use crate::launch::Opening;
 use dap_asked::THREAD;
-use dap_message::{Fields, Outbox};
 use dap_points::Points;
 use mix_machine::{Conflict, MixFault};
 use mix_refused::Memory;
 use mix_session::{End, Session, conflict_text};
+use rpc_message::{Fields, Outbox};
 use serde_json::Value;
 use std::alloc::Global;
 

@@ -2,20 +2,17 @@
 #![tactic(auto, using(crate::proofs::EventLemmas::answering))]
 
 ghost use Rattle.std.specs.Prelude.{◌≡◌, [], IfOk, OnOk};
-ghost use Rattle.mix_dap.specs.Events.{invalidated};
+ghost use Rattle.mix_dap.specs.Prelude.{invalidated, Answered, Keeps, AddsReply, end_of};
 ghost use Rattle.mix_dap.specs.Reaction.{acted, beside, replied, restarted, stepped};
-ghost use Rattle.mix_dap.specs.Reacts.{Answered, Keeps};
-ghost use Rattle.mix_dap.specs.Replies.{AddsReply};
-ghost use Rattle.mix_dap.specs.Stopped.{end_of};
 
 use crate::adapter::bodies::{line_body, said_body, worth_body};
 use crate::adapter::ends::fault_in;
 use crate::adapter::{Adapter, Then, Way};
 use dap_asked::{Act, nothing, value_asked, worth_asked};
-use dap_message::{Outbox, Request};
 use mix_machine::{MixFault, Reg};
 use mix_refused::Memory;
 use mix_session::{Answer, End};
+use rpc_message::{Outbox, Request};
 use serde_json::json;
 
 impl Adapter {

@@ -2,8 +2,7 @@
 use Rattle.std.specs.Prelude.{ℕ, zero, suc, ◌+◌, ◌-◌, true, false, Bool, not, ◌&&◌, cond, nat_le, nat_lt, List, [], ◌∷◌, ◌++◌, length, None, ◌≡◌, ◌<◌, ◌≤◌, IsTrue, refl}
 use Rattle.std.proofs.Common.{ap, arith}
 use Rattle.std.proofs.lemmas.Bool.Decides.{nat_tests}
-use Rattle.mix_word.specs.Word.{WordValue}
-use Rattle.mix_word.specs.Uses.{unit_count}
+use Rattle.mix_word.specs.Prelude.{WordValue, unit_count}
 use Rattle.mix_machine.specs.World.{WorldState, IsWorld, cell_of, unit_at, last_clock}
 use Rattle.mix_machine.specs.UnitAction.{transfer_end, marks_page}
 use Rattle.mix_machine.specs.units.UnitKind.{block_length, has_place, has_medium, has_output}

@@ -1,7 +1,6 @@
 -- What putting some of the last kept values back comes to, of the state and of the list of kept values.
 use Rattle.std.specs.Prelude.{ℕ, ◌≡◌, ◌-◌, ◌<◌, List, ◌≤◌, length, take, drop, reverse, Some}
-use Rattle.undo_core.specs.Counts.{newest_part}
-use Rattle.undo_core.specs.Replay.{put_back}
+use Rattle.undo_core.specs.Prelude.{newest_part, put_back}
 use Rattle.mix_machine.specs.World.{WorldState}
 use Rattle.mix_machine.specs.Write.{put_value, is_clock}
 use Rattle.mix_machine.specs.declared.old.Old.{Old}

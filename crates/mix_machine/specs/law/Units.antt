@@ -4,8 +4,7 @@ use Rattle.std.proofs.Common.{arith}
 use Rattle.std.proofs.lemmas.Bool.{and_parts}
 use Rattle.std.proofs.lemmas.Bool.Decides.{nat_tests}
 use Rattle.std.proofs.lemmas.List.{get_or-set_same, length-set}
-use Rattle.mix_word.specs.Word.{WordValue}
-use Rattle.mix_word.specs.Uses.{unit_count}
+use Rattle.mix_word.specs.Prelude.{WordValue, unit_count}
 use Rattle.mix_machine.specs.units.UnitKind.{has_place}
 use Rattle.mix_machine.specs.units.Unit.{UnitState, empty_unit, block_of, with_word, with_blocks}
 use Rattle.mix_machine.specs.units.Units.{UnitsState, AreUnits, unit_of, with_unit, set_place, fits_place, set_item, fits_item, add_blocks}

@@ -3,8 +3,7 @@ use Rattle.std.specs.Prelude.{◌≡◌, ◌<◌, ◌≤◌, ℕ, zero, suc, Boo
 use Rattle.std.proofs.Common.{ap, ◌∙◌, arith, length-append}
 use Rattle.std.proofs.lemmas.Bool.Decides.{nat_tests}
 use Rattle.std.proofs.lemmas.List.{length-set, set-set, set-get_or, get_or-set_same, take_at, append_assoc}
-use Rattle.mix_word.specs.Word.{WordValue, zero_word}
-use Rattle.mix_word.specs.Uses.{unit_count}
+use Rattle.mix_word.specs.Prelude.{WordValue, zero_word, unit_count}
 use Rattle.mix_machine.specs.units.UnitKind.{has_medium, has_output}
 use Rattle.mix_machine.specs.units.Row.{RowState}
 use Rattle.mix_machine.specs.units.Unit.{UnitState, empty_unit, block_of, with_word, zero_blocks, with_blocks, with_row}

@@ -4,8 +4,7 @@ use Rattle.std.proofs.Common.{ap, sym, ◌∙◌, arith, length-append, length-t
 use Rattle.std.proofs.lemmas.Bool.{and_parts}
 use Rattle.std.proofs.lemmas.Bool.Decides.{nat_tests}
 use Rattle.std.proofs.lemmas.List.{length-map, length-set, length-replicate}
-use Rattle.mix_word.specs.Word.{WordValue}
-use Rattle.mix_word.specs.Uses.{unit_count}
+use Rattle.mix_word.specs.Prelude.{WordValue, unit_count}
 use Rattle.mix_machine.specs.units.UnitKind.{block_length, has_medium, has_output}
 use Rattle.mix_machine.specs.units.Row.{RowState}
 use Rattle.mix_machine.specs.units.Unit.{UnitState, IsUnit, block_of, with_word, with_blocks, with_row, filled, blocks_in, most_entries, last_delay, last_until}

@@ -1,7 +1,6 @@
 -- All units of the machine, and the values of them that can be put back.
 use Rattle.std.specs.Prelude.{◌≡◌, ℕ, Bool, ◌&&◌, nat_le, nat_lt, List, [], ◌∷◌, length, map, take, slice_index_or, slice_set, if◌then◌else◌}
-use Rattle.mix_word.specs.Word.{WordValue}
-use Rattle.mix_word.specs.Uses.{unit_count}
+use Rattle.mix_word.specs.Prelude.{WordValue, unit_count}
 use Rattle.mix_machine.specs.units.UnitKind.{kinds, block_length, has_place, has_medium, has_output}
 use Rattle.mix_machine.specs.units.Row.{RowState}
 use Rattle.mix_machine.specs.units.Unit.{UnitState, IsUnit, empty_unit, word_of, with_word, with_blocks, with_row, filled, last_until}

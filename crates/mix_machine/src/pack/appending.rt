@@ -1,9 +1,7 @@
 //! The units of a value, appended.
 ghost use Rattle.std.specs.Prelude.{◌≡◌, ◌+◌, ◌*◌, ◌%◌, ◌<◌, ◌≤◌, ◌^◌, ◌++◌, [], ◌∷◌, Some, IsTrue, reverse, vec_len, vec_capacity};
-ghost use Rattle.mix_machine.specs.declared.old.Old.{Old};
+ghost use Rattle.mix_machine.specs.Prelude.{Old, Anchor, last_of, value_by, said};
 ghost use Rattle.mix_machine.specs.declared.old.Old.TheVariants as old;
-ghost use Rattle.mix_machine.specs.declared.pack.anchor.Anchor.{Anchor};
-ghost use Rattle.mix_machine.specs.Pack.{last_of, value_by, said};
 
 use crate::old::Old;
 use crate::pack::kind::Kind;

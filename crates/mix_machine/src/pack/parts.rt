@@ -1,7 +1,6 @@
 //! The parts of a value, as numbers and back: times, words, registers, the comparison indicator, breakpoints, units.
 ghost use Rattle.std.specs.Prelude.{◌≡◌, ◌<◌, ◌^◌, Some, None, cond, nat_lt, slice_get};
-ghost use Rattle.mix_word.specs.Register.{all_registers};
-ghost use Rattle.mix_word.specs.Uses.{unit_count};
+ghost use Rattle.mix_word.specs.Prelude.{all_registers, unit_count};
 ghost use Rattle.mix_machine.specs.Pack.{comparison_of, indicator_value, short_word, long_word, time_of, register_value, breakpoint_value};
 
 use crate::old::Old;

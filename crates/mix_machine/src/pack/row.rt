@@ -1,8 +1,6 @@
 //! Cells that stand one after the other, packed as one row.
 ghost use Rattle.std.specs.Prelude.{◌≡◌, ◌+◌, ◌*◌, ◌≤◌, ◌++◌, length, vec_len, vec_capacity, MatchOption};
-ghost use Rattle.mix_machine.specs.declared.pack.anchor.Anchor.{Anchor};
-ghost use Rattle.mix_machine.specs.Pack.{said};
-ghost use Rattle.mix_machine.specs.Cells.{cell_values, IsRow};
+ghost use Rattle.mix_machine.specs.Prelude.{Anchor, said, cell_values, IsRow};
 
 use crate::pack::kind::Kind;
 use crate::pack::parts::long_bits;

@@ -1,7 +1,6 @@
 //! What the headers of a step say: its location, its time, a register.
 ghost use Rattle.std.specs.Prelude.{◌≡◌, ◌<◌, ◌≤◌, ◌*◌, ◌%◌, ◌^◌, Some, slice_get};
-ghost use Rattle.mix_word.specs.Register.{all_registers};
-ghost use Rattle.mix_word.specs.Word.{word};
+ghost use Rattle.mix_word.specs.Prelude.{all_registers, word};
 ghost use Rattle.mix_machine.specs.Pack.{before_moment, before_jump, before_next, before_short, before_store, short_word, wide_bits};
 
 use crate::pack::anchor::Anchor;

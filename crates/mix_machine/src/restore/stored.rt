@@ -1,10 +1,8 @@
 //! A store put back: the clock, the location and the cell that it overwrote.
 ghost use Rattle.std.specs.Prelude.{◌≡◌, ◌-◌, ◌/◌, ◌<◌, ◌≤◌, ◌++◌, [], ◌∷◌, IsSome, length, drop, vec_len, vec_capacity};
 ghost use Rattle.undo_core.specs.Replay.{put_back};
-ghost use Rattle.mix_machine.specs.Write.{put_value};
+ghost use Rattle.mix_machine.specs.Prelude.{put_value, header_of, said, Restored};
 ghost use Rattle.mix_machine.specs.declared.pack.kind.Kind.TheVariants as kind;
-ghost use Rattle.mix_machine.specs.Pack.{header_of, said};
-ghost use Rattle.mix_machine.specs.law.Restored.{Restored};
 
 use crate::old::Old;
 use crate::pack::{Anchor, before_store, long, store_of};

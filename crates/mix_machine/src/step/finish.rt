@@ -1,13 +1,8 @@
 //! The end of a step: its time, and its plan carried out.
 ghost use Rattle.std.specs.Prelude.{◌≡◌, ◌<◌, ◌+◌, ◌^◌, nat_lt};
 ghost use Rattle.mix_word.specs.declared.decoding.Decoded.TheVariants.{Named};
-ghost use Rattle.mix_machine.specs.World.{last_clock};
-ghost use Rattle.mix_machine.specs.Fault.{answer_of};
-ghost use Rattle.mix_machine.specs.Order.{applies};
-ghost use Rattle.mix_machine.specs.UnitAction.{use_of, start_of, transfer_start};
-ghost use Rattle.mix_machine.specs.Do.{step_or_fault};
+ghost use Rattle.mix_machine.specs.Prelude.{last_clock, answer_of, applies, use_of, start_of, transfer_start, step_or_fault, Carried};
 ghost use Rattle.mix_machine.specs.law.Stages.{of_address, fault_among, outcome_of, timed_or_fault};
-ghost use Rattle.mix_machine.specs.law.Carried.{Carried};
 
 use crate::decode::Arguments;
 use crate::fault::MixFault;

@@ -1,8 +1,7 @@
 //! Jumps (1.3.1, "Jump operators").
 ghost use Rattle.std.specs.Prelude.{◌≡◌, true};
-ghost use Rattle.mix_machine.specs.Registers.{fits_register};
+ghost use Rattle.mix_machine.specs.Prelude.{fits_register, outcome_of};
 ghost use Rattle.mix_machine.specs.Jump.{is_taken, is_met, return_address, jump_writes};
-ghost use Rattle.mix_machine.specs.law.Stages.{outcome_of};
 
 use crate::decode::Arguments;
 use crate::fault::MixFault;

@@ -1,10 +1,6 @@
 //! Steps one after the other, as long as none needs a look at the machine first.
 ghost use Rattle.std.specs.Prelude.{◌≡◌, ◌<◌, option_map};
-ghost use Rattle.mix_machine.specs.World.{cell_of};
-ghost use Rattle.mix_machine.specs.Do.{plan_of};
-ghost use Rattle.mix_machine.specs.Fault.{answer_of};
-ghost use Rattle.mix_machine.specs.Many.{ends_if};
-ghost use Rattle.mix_machine.specs.law.Carried.{Carried};
+ghost use Rattle.mix_machine.specs.Prelude.{cell_of, plan_of, answer_of, ends_if, Carried};
 ghost use Rattle.mix_machine.specs.law.Steps.{Stepped};
 
 use crate::fault::MixFault;

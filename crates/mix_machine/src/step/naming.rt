@@ -1,9 +1,6 @@
 //! What C and F of an instruction say of its operation: a register, a jump, a condition (1.3.1).
 ghost use Rattle.std.specs.Prelude.{◌≡◌, ◌<◌, ◌%◌, IsTrue};
-ghost use Rattle.mix_word.specs.Register.{offset_of};
-ghost use Rattle.mix_word.specs.Operation.{operation_code, number_of_shift, number_of_jump};
-ghost use Rattle.mix_word.specs.Pairs.{number_of_operation, number_of_pair, is_of_register};
-ghost use Rattle.mix_word.specs.Table.{decode_of};
+ghost use Rattle.mix_word.specs.Prelude.{offset_of, operation_code, number_of_shift, number_of_jump, number_of_operation, number_of_pair, is_of_register, decode_of};
 
 use mix_word::{DataReg, Decoded, JumpKind, Operation, ShiftKind, number_law};
 

@@ -1,7 +1,6 @@
 //! The operand of an instruction (1.3.1): the field F of the cell M.
 ghost use Rattle.std.specs.Prelude.{◌≡◌};
-ghost use Rattle.mix_word.specs.Word.{negation_of};
-ghost use Rattle.mix_word.specs.Field.{field_value_of, put_field_of};
+ghost use Rattle.mix_word.specs.Prelude.{negation_of, field_value_of, put_field_of};
 ghost use Rattle.mix_machine.specs.law.Stages.{operand_or_fault};
 
 use crate::decode::Arguments;

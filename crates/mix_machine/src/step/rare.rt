@@ -1,14 +1,7 @@
 //! A step of an operation that is rare, or long, apart from the others (1.3.1, "MIX operators").
 ghost use Rattle.std.specs.Prelude.{◌≡◌, ◌<◌, None, IsTrue};
-ghost use Rattle.mix_word.specs.Pairs.{number_of_pair};
-ghost use Rattle.mix_word.specs.Table.{decode_of};
-ghost use Rattle.mix_word.specs.Word.{parts_of};
-ghost use Rattle.mix_machine.specs.Decode.{arguments_of};
-ghost use Rattle.mix_machine.specs.Do.{step_or_fault};
-ghost use Rattle.mix_machine.specs.Fault.{answer_of};
-ghost use Rattle.mix_machine.specs.Order.{applies};
-ghost use Rattle.mix_machine.specs.law.Stages.{of_address, fault_among};
-ghost use Rattle.mix_machine.specs.law.Carried.{Carried};
+ghost use Rattle.mix_word.specs.Prelude.{number_of_pair, decode_of, parts_of};
+ghost use Rattle.mix_machine.specs.Prelude.{arguments_of, step_or_fault, answer_of, applies, of_address, fault_among, Carried};
 ghost use Rattle.mix_machine.specs.law.Apart.{is_apart};
 
 use crate::fault::MixFault;

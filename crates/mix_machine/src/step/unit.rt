@@ -1,12 +1,8 @@
 //! IN, OUT, IOC, JBUS and JRED (1.3.1, "Input-output operators"): what they ask of the unit F, and what they move.
 ghost use Rattle.std.specs.Prelude.{◌≡◌, ◌<◌, ◌≤◌, ◌↔◌, ◌==◌, not, ◌||◌, ◌&&◌, Ok, Err, IsTrue, IsSome, IfSome, length, nat_lt, nat_le, true, false, if◌then◌else◌};
 ghost use Rattle.mix_word.specs.Uses.{unit_count};
-ghost use Rattle.mix_machine.specs.World.{unit_at};
+ghost use Rattle.mix_machine.specs.Prelude.{unit_at, effects, outcome_of, has_medium, most_entries};
 ghost use Rattle.mix_machine.specs.UnitAction.{is_busy, block_at, names_block, wound, bad_order};
-ghost use Rattle.mix_machine.specs.Effects.{effects};
-ghost use Rattle.mix_machine.specs.law.Stages.{outcome_of};
-ghost use Rattle.mix_machine.specs.units.UnitKind.{has_medium};
-ghost use Rattle.mix_machine.specs.units.Unit.{most_entries};
 ghost use Rattle.mix_machine.specs.declared.fault.MixFault.TheVariants.{NoUnit, NoBlock, UnitFull};
 
 use crate::address::Address;

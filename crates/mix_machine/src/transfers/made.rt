@@ -1,9 +1,7 @@
 //! What a change makes of the transfer of a unit (1.3.1, "Input-output operators").
 ghost use Rattle.std.specs.Prelude.{◌≡◌, ◌≤◌};
-ghost use Rattle.mix_machine.specs.World.{unit_at};
-ghost use Rattle.mix_machine.specs.units.Unit.{last_delay};
+ghost use Rattle.mix_machine.specs.Prelude.{unit_at, last_delay, transfer_end};
 ghost use Rattle.mix_machine.specs.Effects.{effects, transfer_of};
-ghost use Rattle.mix_machine.specs.UnitAction.{transfer_end};
 ghost use Rattle.mix_machine.specs.Transfers.{begun, made_by, transfer_by};
 
 use crate::decode::Arguments;

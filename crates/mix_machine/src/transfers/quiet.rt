@@ -1,8 +1,7 @@
 //! Steps that neither use the cells of a transfer nor begin or end one (1.3.1, "Input-output operators").
 ghost use Rattle.std.specs.Prelude.{◌≡◌, ◌&&◌, None, false, true, max, nat_le};
-ghost use Rattle.mix_machine.specs.Decode.{instruction};
+ghost use Rattle.mix_machine.specs.Prelude.{instruction, Step};
 ghost use Rattle.mix_machine.specs.Transfers.{conflict_of, end_of, is_quiet, last_end, may_transfer, transfer_by};
-ghost use Rattle.mix_machine.specs.declared.old.Change.TheVariants.{Step};
 
 use crate::transfers::{Pending, Transfers};
 use crate::world::World;

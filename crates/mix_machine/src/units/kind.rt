@@ -1,7 +1,6 @@
 //! The kinds of units (1.3.1, "Input-output operators"): what each can do, and how long its blocks are.
 ghost use Rattle.std.specs.Prelude.{◌≡◌, ◌<◌, ◌≤◌};
-ghost use Rattle.mix_machine.specs.Part.{is_same_kind};
-ghost use Rattle.mix_machine.specs.units.UnitKind.{kinds, kind_of, block_length, has_place, has_medium, has_output};
+ghost use Rattle.mix_machine.specs.Prelude.{is_same_kind, kinds, kind_of, block_length, has_place, has_medium, has_output};
 
 use crate::units::number::UnitNo;
 

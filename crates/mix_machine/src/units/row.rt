@@ -1,7 +1,6 @@
 //! A row that a unit has written: the words of a line or a card, or a page mark.
 ghost use Rattle.std.specs.Prelude.{◌≡◌, ◌≤◌, length, None, Some, MatchOption};
-ghost use Rattle.mix_machine.specs.Part.{is_same_row};
-ghost use Rattle.mix_machine.specs.units.Row.{row_of};
+ghost use Rattle.mix_machine.specs.Prelude.{is_same_row, row_of};
 
 use crate::units::unit::same::are_same_words;
 use mix_word::{Sign, Word};

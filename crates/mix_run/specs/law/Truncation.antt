@@ -2,9 +2,7 @@
 use Rattle.std.proofs.Common.{◌≡◌, ℕ, suc, ◌<◌, ◌≤◌, Bool, true, false, cond, ltb, List, length, take, Result, Ok, Err, refl, sym, ap, ◌∙◌, arith}
 use Rattle.std.proofs.lemmas.Bool.{lt-ltb, ltb-true, ltb-false}
 use Rattle.std.proofs.lemmas.List.{length-take-le, take-take, take_all}
-use Rattle.mixal_asm.specs.Assembly.{assembly, program_from}
-use Rattle.mixal_asm.specs.PassOne.{at_first}
-use Rattle.mixal_asm.specs.Program.{ProgramValue}
+use Rattle.mixal_asm.specs.Prelude.{assembly, program_from, at_first, ProgramValue}
 use Rattle.mix_machine.specs.units.Units.{UnitsState}
 use Rattle.mix_machine.specs.units.deck.Deck.{lines_from, deck_of, text_of_unit, nothing_read, no_line_read}
 use Rattle.mix_files.specs.Bundle.{parts_of}

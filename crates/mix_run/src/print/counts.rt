@@ -1,14 +1,9 @@
 //! A program run in a session, and the table at its end: that of how often each instruction was executed, and how long that took, or that of the formulas.
 ghost use Rattle.std.specs.Prelude.{◌≡◌, ◌<◌, ◌++◌, ◌-◌, ◌^◌, ◌==◌, ◌&&◌, ℕ, List, [], IfOk, OnOk, min, true};
-ghost use Rattle.mix_session.specs.Command.{after};
-ghost use Rattle.mix_session.specs.Session.{opened};
-ghost use Rattle.mix_session.specs.Tally.{tally_in};
+ghost use Rattle.mix_session.specs.Prelude.{after, opened, tally_in};
 ghost use Rattle.mix_run.specs.Counted.{count_rows, count_rows_at, counted_run, counted_steps, counts_table, end_of, max_counted, run_end};
-ghost use Rattle.mix_run.specs.Drawn.{DrawnIf};
-ghost use Rattle.mix_run.specs.Keep.{kept_if};
+ghost use Rattle.mix_run.specs.Prelude.{DrawnIf, kept_if, rows_text, Ran};
 ghost use Rattle.mix_run.specs.PrintOutput.{Leaves, counted_outcome, ran_to};
-ghost use Rattle.mix_run.specs.Table.{rows_text};
-ghost use Rattle.mix_run.specs.declared.print.PrintAnswer.TheVariants.{Ran};
 
 use crate::fault::ToolFault;
 use crate::print::Printed;

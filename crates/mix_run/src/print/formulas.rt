@@ -1,7 +1,6 @@
 //! The table of the formulas: how often each line was executed that has a formula in brackets, beside the formula's value.
 ghost use Rattle.std.specs.Prelude.{◌≡◌, ◌++◌, IfOk, OnOk, true};
-ghost use Rattle.mix_formula.specs.Found.{is_count};
-ghost use Rattle.mix_formula.specs.Names.{all_named};
+ghost use Rattle.mix_formula.specs.Prelude.{is_count, all_named};
 ghost use Rattle.mix_formula.specs.Rows.{all_rows, formula_of, row_value};
 ghost use Rattle.mix_formula.specs.declared.value.Value.TheVariants.{Known};
 ghost use Rattle.mix_run.specs.Formulas.{fits_field, fits_text, formula_field, formula_names, formula_row, formula_rows, formulas_table, lines_table, value_field};

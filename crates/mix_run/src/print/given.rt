@@ -3,8 +3,7 @@ ghost use Rattle.std.specs.Prelude.{◌≡◌, ◌∷◌, IfOk, option_copied, o
 ghost use Rattle.std.specs.List.{slice_split};
 ghost use Rattle.mix_formula.specs.Names.{all_named};
 ghost use Rattle.mix_views.specs.Analysis.{given_in};
-ghost use Rattle.mixal_text.specs.Part.{is_comma};
-ghost use Rattle.mixal_text.specs.Words.{pieces_of};
+ghost use Rattle.mixal_text.specs.Prelude.{is_comma, pieces_of};
 ghost use Rattle.mix_run.specs.Formulas.{given_by};
 
 use mix_formula::{Named, given_of};

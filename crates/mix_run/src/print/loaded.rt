@@ -1,12 +1,8 @@
 //! A program run on the machine that it is loaded into: where it comes to, and what it leaves.
 ghost use Rattle.std.specs.Prelude.{◌≡◌, ◌++◌, ◌<◌, ◌-◌, ◌^◌, [], IfOk, OnOk, option_and_then};
 ghost use Rattle.mix_machine.specs.Loaded.{loaded};
-ghost use Rattle.mix_run.specs.Keep.{kept_if};
+ghost use Rattle.mix_run.specs.Prelude.{kept_if, Leaves, answered, came_to, run_told, Writes, Ran};
 ghost use Rattle.mix_run.specs.Print.{counted, line_at, registers_if, run_of};
-ghost use Rattle.mix_run.specs.PrintOutput.{Leaves, answered, came_to};
-ghost use Rattle.mix_run.specs.StepTable.{run_told};
-ghost use Rattle.mix_run.specs.Writes.{Writes};
-ghost use Rattle.mix_run.specs.declared.print.PrintAnswer.TheVariants.{Ran};
 
 use crate::fault::ToolFault;
 use crate::keep::keep_units;

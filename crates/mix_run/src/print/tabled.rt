@@ -1,9 +1,7 @@
 //! A run that is told in a table: a row for each step, or for each that altered a part of the machine.
 ghost use Rattle.std.specs.Prelude.{◌≡◌, ◌<◌, ◌-◌, ◌^◌, [], true};
-ghost use Rattle.mix_run.specs.Print.{counted};
+ghost use Rattle.mix_run.specs.Prelude.{counted, rows_text, table_text, Writes};
 ghost use Rattle.mix_run.specs.StepTable.{columns_of, tabled, tabled_run};
-ghost use Rattle.mix_run.specs.Table.{rows_text, table_text};
-ghost use Rattle.mix_run.specs.Writes.{Writes};
 
 mod step;
 

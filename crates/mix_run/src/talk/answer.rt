@@ -2,11 +2,8 @@
 
 ghost use Rattle.std.specs.Prelude.{◌≡◌, ◌<◌, ◌-◌, ◌^◌, ◌∷◌, [], Err, IfErr, IfOk, OnOk};
 ghost use Rattle.std.specs.Io.KnownBytes.{Appends};
-ghost use Rattle.mix_run.specs.Asked.{after_lines, is_quit};
-ghost use Rattle.mix_run.specs.Fault.{IsMemoryOrWrite};
-ghost use Rattle.mix_run.specs.Output.{replies};
+ghost use Rattle.mix_run.specs.Prelude.{after_lines, is_quit, IsMemoryOrWrite, replies, with_points};
 ghost use Rattle.mix_person.specs.declared.person.Line.TheVariants as kinds;
-ghost use Rattle.mix_run.specs.Points.{with_points};
 ghost use Rattle.mix_run.specs.Recall.{meant, meant_by, recalled, recalled_by, recalled_line};
 ghost use Rattle.mix_stream.specs.Stream.{AppendsFront, CountsFailure};
 

@@ -2,8 +2,7 @@
 
 ghost use Rattle.std.specs.Prelude.{◌≡◌, ◌<◌, ◌-◌, ◌^◌, Err, IfErr, IfOk};
 ghost use Rattle.std.specs.Io.KnownBytes.{Appends};
-ghost use Rattle.mix_session.specs.Command.{after, reply_of};
-ghost use Rattle.mix_session.specs.Session.{effect_in};
+ghost use Rattle.mix_session.specs.Prelude.{after, reply_of, effect_in};
 ghost use Rattle.mix_run.specs.Fault.{IsMemoryOrWrite};
 ghost use Rattle.mix_stream.specs.Stream.{AppendsFront, CountsFailure};
 

@@ -3,12 +3,7 @@
 ghost use Rattle.std.specs.Prelude.{◌≡◌, ◌<◌, ◌-◌, ◌^◌, ◌∷◌, [], Err, IfErr, IfOk, OnOk};
 ghost use Rattle.std.specs.Io.KnownBytes.{Appends};
 ghost use Rattle.mix_lines.specs.Lines.{lines};
-ghost use Rattle.mix_run.specs.Asked.{after_lines, answers, asked, is_over, recalled_all};
-ghost use Rattle.mix_run.specs.Fault.{IsMemoryOrWrite};
-ghost use Rattle.mix_run.specs.Hearing.{Answered};
-ghost use Rattle.mix_run.specs.Opening.{Files};
-ghost use Rattle.mix_run.specs.Sources.{Knows};
-ghost use Rattle.mix_run.specs.Stretch.{talk_of, typed_line};
+ghost use Rattle.mix_run.specs.Prelude.{after_lines, answers, asked, is_over, recalled_all, IsMemoryOrWrite, Answered, Files, Knows, talk_of, typed_line};
 ghost use Rattle.mix_stream.specs.Stream.{AppendsFront, CountsFailure};
 
 use crate::fault::ToolFault;

@@ -4,10 +4,7 @@ ghost use Rattle.std.specs.Prelude.{◌≡◌, ◌≢◌, ◌<◌, ◌≤◌, �
 ghost use Rattle.std.specs.List.{list_any};
 ghost use Rattle.mix_lines.specs.Lines.{lines};
 ghost use Rattle.mix_machine.specs.declared.units.deck_fault.DeckFault.{DeckFault};
-ghost use Rattle.mix_run.specs.Opening.{Files, noted};
-ghost use Rattle.mix_run.specs.Output.{IsStatus};
-ghost use Rattle.mix_run.specs.Sources.{Knows};
-ghost use Rattle.mix_run.specs.Stretch.{talk_of};
+ghost use Rattle.mix_run.specs.Prelude.{Files, noted, IsStatus, Knows, talk_of};
 ghost use Rattle.mix_run.specs.Talk.{TalksTo, is_too_long, max_line_bytes};
 ghost use Rattle.mix_stream.specs.Stream.{CountsFailure};
 

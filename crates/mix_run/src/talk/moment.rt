@@ -1,8 +1,7 @@
 //! A talk at one moment.
 
 ghost use Rattle.std.specs.Prelude.{◌≡◌, IfOk};
-ghost use Rattle.mix_run.specs.Bundle.{origin_of};
-ghost use Rattle.mix_run.specs.Reload.{begun};
+ghost use Rattle.mix_run.specs.Prelude.{origin_of, begun};
 
 use crate::bundle::{Origin, copy_of};
 use crate::talk::recall::Recall;

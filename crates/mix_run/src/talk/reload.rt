@@ -3,10 +3,8 @@
 ghost use Rattle.std.specs.Prelude.{◌≡◌, OnErr, OnOk, Some};
 ghost use Rattle.mix_lines.specs.Lines.{lines};
 ghost use Rattle.mixal_asm.specs.Assembly.{assembly};
-ghost use Rattle.mix_session.specs.Command.{after};
-ghost use Rattle.mix_session.specs.Session.{effect_in};
-ghost use Rattle.mix_run.specs.Asked.{after_lines};
-ghost use Rattle.mix_run.specs.Opening.{Files};
+ghost use Rattle.mix_session.specs.Prelude.{after, effect_in};
+ghost use Rattle.mix_run.specs.Prelude.{after_lines, Files};
 ghost use Rattle.mix_run.specs.Reload.{reloaded, reloaded_as};
 ghost use Rattle.mix_run.specs.Sources.{is_reload};
 

@@ -1,12 +1,9 @@
 //! Runs: steps forwards, or changes taken back, until one of the ends holds.
 
 ghost use Rattle.std.specs.Prelude.{◌≡◌, ◌≤◌, ◌<◌, ℕ, IfErr, IfOk, OnErr, [], ◌∷◌, Some, None, true};
-ghost use Rattle.mix_session.specs.Timeline.{world_of, begins_with_step, moved};
+ghost use Rattle.mix_session.specs.Prelude.{world_of, begins_with_step, moved, BrokenOff, IsBefore, AreMarks, HasMoved, has_conflict, Knows};
 ghost use Rattle.mix_session.specs.Command.{effect_of_run, effect_of_trace, effect_of_back_break, end_of_more, is_halt_done, end_at, HasEffect};
-ghost use Rattle.mix_session.specs.BrokenOff.{BrokenOff, IsBefore};
 ghost use Rattle.mix_session.specs.Stops.{no_stops, at_breaks, at_breaks_or};
-ghost use Rattle.mix_session.specs.Marks.{AreMarks, HasMoved};
-ghost use Rattle.mix_session.specs.Known.{has_conflict, Knows};
 
 use crate::answer::Answer;
 use crate::command::plain::{many_of, plain_steps};

@@ -3,10 +3,8 @@
 ghost use Rattle.std.specs.Prelude.{◌≡◌, ◌<◌, ◌==◌, ℕ, IfErr, IfOk, IsTrue, Some, None, length, take, if◌then◌else◌};
 ghost use Rattle.std.specs.List.{list_any};
 ghost use Rattle.std.specs.Option.{option_or};
-ghost use Rattle.mix_session.specs.Timeline.{is_at_break};
-ghost use Rattle.mix_session.specs.Command.{effect_of_run, end_there};
+ghost use Rattle.mix_session.specs.Prelude.{is_at_break, effect_of_run, end_there, AreMarks, first_met, end_by_marks};
 ghost use Rattle.mix_session.specs.Stops.{StopsState, is_at_stop, is_awaited};
-ghost use Rattle.mix_session.specs.Marks.{AreMarks, first_met, end_by_marks};
 ghost use Rattle.mix_session.specs.Plain.{IsFree};
 
 use crate::condition::Condition;

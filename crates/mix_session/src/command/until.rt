@@ -2,13 +2,7 @@
 
 ghost use Rattle.std.specs.Prelude.{◌≡◌, ◌≤◌, ◌<◌, ◌+◌, ℕ, IfErr, IfOk, true, false, length};
 ghost use Rattle.mix_machine.specs.Part.{mark_before};
-ghost use Rattle.mix_session.specs.Command.{count_back, effect_of_back_until, effect_of_forth_until, is_met_by, is_reached_forth, least_below, HasEffect};
-ghost use Rattle.mix_session.specs.BrokenOff.{BrokenOff, IsBefore};
-ghost use Rattle.mix_session.specs.Condition.{watched, is_met, is_conflict};
-ghost use Rattle.mix_session.specs.Conflicts.{last_conflicts};
-ghost use Rattle.mix_session.specs.Known.{has_conflict, IsLast, Knows};
-ghost use Rattle.mix_session.specs.Marks.{AreMarks};
-ghost use Rattle.mix_session.specs.Timeline.{back_by, forth_by, world_of};
+ghost use Rattle.mix_session.specs.Prelude.{count_back, effect_of_back_until, effect_of_forth_until, is_met_by, is_reached_forth, least_below, HasEffect, BrokenOff, IsBefore, watched, is_met, is_conflict, last_conflicts, has_conflict, IsLast, Knows, AreMarks, back_by, forth_by, world_of};
 
 use crate::answer::Answer;
 use crate::command::go_back;

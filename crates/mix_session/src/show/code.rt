@@ -1,8 +1,7 @@
 //! What `show code` writes: cells as instructions, and the lines of the source that they come from.
 
 ghost use Rattle.std.specs.Prelude.{◌≡◌, ◌++◌, OnOk, IfOk, codes};
-ghost use Rattle.mixal_asm.specs.Row.{source_value};
-ghost use Rattle.mixal_asm.specs.Source.{source_at};
+ghost use Rattle.mixal_asm.specs.Prelude.{source_value, source_at};
 ghost use Rattle.mix_session.specs.ShowCode.{is_overwritten, mark_text, line_number, line_bytes, line_text, code_text, code_line, codes_text};
 
 use crate::show::cells::place_at;

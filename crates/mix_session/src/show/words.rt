@@ -1,8 +1,7 @@
 //! Words as a deck has them, and in characters.
 
 ghost use Rattle.std.specs.Prelude.{◌≡◌, ◌∷◌, [], ◌<◌, ◌≤◌, Some, length, slice_index_or};
-ghost use Rattle.mix_word.specs.Characters.{character_of};
-ghost use Rattle.mix_word.specs.Word.{byte_of, zero_word};
+ghost use Rattle.mix_word.specs.Prelude.{character_of, byte_of, zero_word};
 ghost use Rattle.mix_session.specs.ShowUnit.{pair_text, deck_word_text, text_after, block_text, letters_text, characters_text};
 ghost use Rattle.mix_session.specs.ShowValue.{short_letters};
 

@@ -4,11 +4,11 @@ use crate::view::change::Worlds;
 use crate::view::decoded::put_field;
 use crate::view::{part_name, put_digits};
 use dap_asked::held;
-use dap_message::Fields;
 use mix_machine::{Change, UnitNo, World};
 use mix_refused::Memory;
 use mix_session::{Altered, UnitDifference, altered_by, unit_differences};
 use mix_word::Field;
+use rpc_message::Fields;
 use serde_json::Value;
 use std::alloc::Global;
 

@@ -1,9 +1,9 @@
 //! What a unit holds: the rows that it has written, and the blocks that it is still to read.
 
 use dap_asked::characters;
-use dap_message::Fields;
 use mix_machine::{Unit, UnitKind, Word};
 use mix_refused::Memory;
+use rpc_message::Fields;
 use serde_json::Value;
 use std::alloc::Global;
 

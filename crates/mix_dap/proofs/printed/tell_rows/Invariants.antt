@@ -1,8 +1,7 @@
 -- What was told so far, and the rows that are left, are all rows.
 use Rattle.std.proofs.Common.{◌≡◌, ◌++◌, ◌-◌, List, drop, length}
 use Rattle.std.specs.Prelude.{map}
-use Rattle.mix_dap.specs.Events.{Event, AddsEvents}
-use Rattle.mix_dap.specs.Output.{row_output}
+use Rattle.mix_dap.specs.Prelude.{Event, AddsEvents, row_output}
 use Rattle.mix_dap.proofs.printed.tell_rows.Given as goal
 
 abbrev pub invariant-loop-at : goal.invariant-loop-at

@@ -2,9 +2,8 @@
 use Rattle.std.proofs.Common.{inl, inr, refl, subst}
 use Rattle.std.specs.Prelude.{IfNone, IfSome, IsErr}
 use Rattle.dap_asked.specs.Kind.{kind_before}
-use Rattle.mix_dap.specs.Before.{AskedShows}
+use Rattle.mix_dap.specs.Prelude.{AskedShows, launched_of}
 use Rattle.mix_dap.specs.Dialogue.{BeginsAs}
-use Rattle.mix_dap.specs.Launched.{launched_of}
 use Rattle.mix_dap.specs.declared.waiting.Asked.TheVariants as asked
 use Rattle.mix_dap.proofs.EventLemmas.{sends-all}
 use Rattle.mix_dap.proofs.ServedLemmas.{opens-as}

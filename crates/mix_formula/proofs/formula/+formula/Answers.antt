@@ -1,7 +1,6 @@
 use Rattle.std.proofs.Common.{◌≡◌, ◌-◌, ℕ, List, Ok, Err, sym, ap, ◌∙◌, arith}
 use Rattle.mix_formula.specs.Formula.{links, part_by, product_by, product_operator, signed_part, sum_at, sum_operator}
-use Rattle.mix_formula.specs.declared.arithmetic.Reckoned.{Reckoned}
-use Rattle.mix_formula.specs.Names.{names_of}
+use Rattle.mix_formula.specs.Prelude.{Reckoned, names_of}
 use Rattle.mix_formula.proofs.FormulaLemmas.{chain-read, chain-refused, links-done, links-none, links-refused, links-some, sum_at-none, sum_at-some}
 use Rattle.mix_formula.proofs.formula.+formula.Goals as goal
 

@@ -1,6 +1,5 @@
 use Rattle.std.proofs.Common.{◌≡◌, ◌+◌, ◌*◌}
-use Rattle.mix_formula.specs.Formula.{links, part_by, product_by, product_operator, sum_at, sum_operator}
-use Rattle.mix_formula.specs.Names.{names_of}
+use Rattle.mix_formula.specs.Prelude.{links, part_by, product_by, product_operator, sum_at, sum_operator, names_of}
 use Rattle.mix_formula.proofs.formula.+formula.Given as goal
 
 abbrev pub decreases-sum : goal.decreases-sum

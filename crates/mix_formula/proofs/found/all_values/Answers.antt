@@ -1,8 +1,5 @@
 use Rattle.std.proofs.Common.{◌≡◌, ℕ, List, ap, sym, ◌∙◌, arith, None}
-use Rattle.mix_formula.specs.Found.{first_found, steps}
-use Rattle.mix_formula.specs.Names.{all_named}
-use Rattle.mix_formula.specs.Rows.{all_rows}
-use Rattle.mix_formula.specs.declared.names.Named.{Named}
+use Rattle.mix_formula.specs.Prelude.{first_found, steps, all_named, all_rows, Named}
 use Rattle.mix_formula.proofs.FoundLemmas.{steps-end, steps-next, steps-none}
 use Rattle.mix_formula.proofs.found.all_values.Goals as goal
 

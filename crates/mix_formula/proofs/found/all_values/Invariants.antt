@@ -1,7 +1,5 @@
 use Rattle.std.proofs.Common.{◌≡◌}
-use Rattle.mix_formula.specs.Found.{all_values, steps}
-use Rattle.mix_formula.specs.Names.{all_named}
-use Rattle.mix_formula.specs.Rows.{all_rows}
+use Rattle.mix_formula.specs.Prelude.{all_values, steps, all_named, all_rows}
 use Rattle.mix_formula.proofs.found.all_values.Given as goal
 
 abbrev pub invariant-loop-more : goal.invariant-loop-more

@@ -1,7 +1,5 @@
 use Rattle.std.proofs.Common.{◌≡◌, length}
-use Rattle.mix_formula.specs.Found.{first_found}
-use Rattle.mix_formula.specs.Names.{all_named}
-use Rattle.mix_formula.specs.Rows.{all_rows}
+use Rattle.mix_formula.specs.Prelude.{first_found, all_named, all_rows}
 use Rattle.mix_formula.proofs.found.first_found.Given as goal
 
 abbrev pub invariant-loop-rest : goal.invariant-loop-rest

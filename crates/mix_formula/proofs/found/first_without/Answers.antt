@@ -1,6 +1,5 @@
 use Rattle.std.proofs.Common.{◌≡◌, ℕ, ap, sym, ◌∙◌, arith}
-use Rattle.mix_formula.specs.Found.{first_without, names_from}
-use Rattle.mix_formula.specs.Names.{all_named}
+use Rattle.mix_formula.specs.Prelude.{first_without, names_from, all_named}
 use Rattle.mix_formula.proofs.FoundLemmas.{names_from-none, with-name, without-name}
 use Rattle.mix_formula.proofs.found.first_without.Goals as goal
 

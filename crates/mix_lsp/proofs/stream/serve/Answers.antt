@@ -1,6 +1,6 @@
 -- From the first byte on.
 use Rattle.std.proofs.Common.{Ok}
-use Rattle.dap_stream.specs.Hearing.{kept}
+use Rattle.rpc_stream.specs.Hearing.{kept}
 use Rattle.mix_lsp.proofs.ServedLemmas.{served-from}
 use Rattle.mix_lsp.proofs.stream.serve.Goals as goal
 

@@ -1,7 +1,7 @@
 -- One turn more, or the last one.
 use Rattle.std.proofs.Common.{inl, inr, Ok, refl, subst, ◌∙◌, arith}
 use Rattle.std.proofs.lemmas.Result.{err_from_is_err_and}
-use Rattle.dap_stream.specs.Hearing.{unheard}
+use Rattle.rpc_stream.specs.Hearing.{unheard}
 use Rattle.mix_lsp.specs.Served.{TurnAs}
 use Rattle.mix_lsp.proofs.ServedLemmas.{served, talks-next, talks-zero}
 use Rattle.mix_lsp.proofs.stream.talk.Goals as goal

@@ -1,6 +1,6 @@
 -- So many frames were heard and answered.
 use Rattle.std.proofs.Common.{◌≡◌, ◌-◌, ◌^◌, length}
-use Rattle.dap_stream.specs.Hearing.{unheard}
+use Rattle.rpc_stream.specs.Hearing.{unheard}
 use Rattle.mix_lsp.specs.Served.{Talks}
 use Rattle.mix_lsp.proofs.stream.talk.Given as goal
 

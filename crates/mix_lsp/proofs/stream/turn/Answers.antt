@@ -1,7 +1,7 @@
 -- What was heard is answered, or nothing is.
 use Rattle.std.proofs.Common.{inr, Ok, option_map, refl, subst}
 use Rattle.std.proofs.lemmas.Result.{err_from_is_err_and}
-use Rattle.dap_stream.specs.Hearing.{HearsAs, unheard}
+use Rattle.rpc_stream.specs.Hearing.{HearsAs, unheard}
 use Rattle.mix_lsp.proofs.ServedLemmas.{not_heard, turned}
 use Rattle.mix_lsp.proofs.stream.turn.Goals as goal
 

@@ -1,9 +1,7 @@
 //! The blocks and the rows of a unit: put in, counted, cut and added to (1.3.1, "Input-output operators").
 ghost use Rattle.std.specs.Prelude.{◌≡◌, ◌<◌, ◌≤◌, ◌+◌, ◌/◌, ◌%◌, ◌++◌, OnOk, OnErr, length, replicate, vec_len, vec_capacity, IsTrue};
 ghost use Rattle.mix_word.specs.Word.{zero_word};
-ghost use Rattle.mix_machine.specs.units.UnitKind.{block_length};
-ghost use Rattle.mix_machine.specs.units.Unit.{with_blocks, with_row, filled, most_entries};
-ghost use Rattle.mix_machine.specs.units.Units.{cut_to, can_cut, length_of};
+ghost use Rattle.mix_machine.specs.Prelude.{block_length, with_blocks, with_row, filled, most_entries, cut_to, can_cut, length_of};
 
 use crate::units::row::Row;
 use crate::units::unit::Unit;

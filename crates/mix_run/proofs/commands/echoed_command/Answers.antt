@@ -1,8 +1,7 @@
 -- The echo, and then the reply.
 use Rattle.std.proofs.Common.{[], ◌++◌, ap, sym}
 use Rattle.std.proofs.lemmas.List.{append-nil}
-use Rattle.mix_session.specs.Command.{reply_of}
-use Rattle.mix_session.specs.Session.{effect_in}
+use Rattle.mix_session.specs.Prelude.{reply_of, effect_in}
 use Rattle.mix_run.specs.Output.{echo_of}
 use Rattle.mix_run.proofs.Written.{AppendsFront-after}
 use Rattle.mix_run.proofs.commands.echoed_command.Goals as goal

@@ -2,8 +2,7 @@
 use Rattle.std.proofs.Common.{◌∙◌, Err, ap, subst}
 use Rattle.std.proofs.lemmas.Result.{err_from_is_err_and}
 use Rattle.mix_machine.specs.units.deck.Deck.{deck_of}
-use Rattle.mix_run.specs.Output.{Meets, refusal_of}
-use Rattle.mix_run.specs.UnitsRead.{deck_given}
+use Rattle.mix_run.specs.Prelude.{Meets, refusal_of, deck_given}
 use Rattle.mix_run.proofs.DebugLemmas.{Debug-made, Debug-refused, deck-used, parts-taken}
 use Rattle.mix_run.proofs.RunLemmas.{ConsumesAtMost-none, Meets-no_units, Meets-units}
 use Rattle.mix_run.proofs.run.run_debug.Goals as goal

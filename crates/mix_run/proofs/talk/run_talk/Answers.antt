@@ -6,10 +6,7 @@ use Rattle.std.proofs.lemmas.Result.{err_from_is_err_and}
 use Rattle.mixal_asm.specs.Assembly.{assembly}
 use Rattle.mix_machine.specs.units.deck.Deck.{deck_of}
 use Rattle.mix_refused.specs.declared.refused.Refused.TheVariants as reads
-use Rattle.mix_run.specs.Debug.{debug_output, origin_given}
-use Rattle.mix_run.specs.Output.{output}
-use Rattle.mix_run.specs.PrintOutput.{parts_of}
-use Rattle.mix_run.specs.UnitsRead.{GivesUnits, deck_given}
+use Rattle.mix_run.specs.Prelude.{debug_output, origin_given, output, parts_of, GivesUnits, deck_given}
 use Rattle.mix_run.specs.declared.fault.ToolFault.TheVariants.{Long}
 use Rattle.mix_run.proofs.DebugLemmas.{Debug-made, Debug-refused, deck-used, parts-made, parts-taken, parts-whole}
 use Rattle.mix_run.proofs.RunLemmas.{ConsumesAtMost-none, Meets-no_units}

@@ -1,5 +1,4 @@
-use Rattle.mix_session.specs.Altered.{numbered, is_altered}
-use Rattle.mix_session.specs.declared.altered.Kind.TheVariants.{Cells, Breaks, Units}
+use Rattle.mix_session.specs.Prelude.{numbered, is_altered, Cells, Breaks, Units}
 use Rattle.mix_session.proofs.AlteredLemmas.{filter-pieces}
 use Rattle.mix_session.proofs.altered.altered_among.Goals as goal
 

@@ -1,9 +1,7 @@
 -- What was read of the source is all that its run looks at.
 use Rattle.std.proofs.Common.{◌∙◌, [], IfOk, ap, subst, sym}
-use Rattle.mix_run.specs.Drawn.{DrawnRun}
-use Rattle.mix_run.specs.PrintOutput.{outcome_of_run}
+use Rattle.mix_run.specs.Prelude.{DrawnRun, outcome_of_run, Refused}
 use Rattle.mix_run.specs.declared.fault.ToolFault.TheVariants as faults
-use Rattle.mix_run.specs.declared.print.PrintAnswer.TheVariants.{Refused}
 use Rattle.mix_tool.specs.Run.{Prints, run_draws, run_output}
 use Rattle.mix_tool.proofs.RunLemmas.{draws-made, draws-refused, leaves-map, leaves-prints, prints-made, prints-no_units, prints-refused, prints-unread}
 use Rattle.mix_tool.proofs.run.print_texts.Goals as goal
@@ -14,15 +12,19 @@ returns-in-Err-clause-output g c given holds =
 
 pub returns-in-Err-Memory-clause-output : goal.returns-in-Err-Memory-clause-output
 returns-in-Err-Memory-clause-output g c given holds =
-    let told = g.W.Out.told c.args.streams.now.out in
-    ([], subst (λ r. Prints (run_output [] c.args.plan.now given) r told told) (sym c.of_file.ensures.answer)
-    (prints-unread (run_output [] c.args.plan.now given) faults.Memory told tt))
+    let told = g.W.Out.told c.args.streams.now.out in (
+      [],
+      subst (λ r. Prints (run_output [] c.args.plan.now given) r told told) (sym c.of_file.ensures.answer)
+          (prints-unread (run_output [] c.args.plan.now given) faults.Memory told tt),
+    )
 
 pub returns-in-Err-Fault-clause-output : goal.returns-in-Err-Fault-clause-output
-returns-in-Err-Fault-clause-output g c given holds =
-    ([], prints-refused [] c.args.plan.now given _ _ _ (record { answer = _; deck = c.new.result; map = c.new-in-Err-Fault.result }) _
-    (c.deref.ensures.value ∙ c.in-Ok.ensures.whole given.source holds.source) c.parts_of-parts.ensures.source
-    (rw c.in-Err-Fault.field-0-is at c.in-Err-Fault.ensures.fault) (ap Refused c.in-Err-Fault.fault-is) c.new.ensures.items)
+returns-in-Err-Fault-clause-output g c given holds = (
+  [],
+  prints-refused [] c.args.plan.now given _ _ _ (record { answer = _; deck = c.new.result; map = c.new-in-Err-Fault.result }) _
+      (c.deref.ensures.value ∙ c.in-Ok.ensures.whole given.source holds.source) c.parts_of-parts.ensures.source
+      (rw c.in-Err-Fault.field-0-is at c.in-Err-Fault.ensures.fault) (ap Refused c.in-Err-Fault.fault-is) c.new.ensures.items,
+)
 
 pub returns-in-Err-Fault-clause-map : goal.returns-in-Err-Fault-clause-map
 returns-in-Err-Fault-clause-map g c given holds =
@@ -30,10 +32,12 @@ returns-in-Err-Fault-clause-map g c given holds =
     (rw c.in-Err-Fault.field-0-is at c.in-Err-Fault.ensures.fault) c.new-in-Err-Fault.ensures.items
 
 pub returns-in-Err-units_of_run-clause-output : goal.returns-in-Err-units_of_run-clause-output
-returns-in-Err-units_of_run-clause-output g c given holds =
-    ([], prints-no_units [] c.args.plan.now given _ _ _ c.in-Ok-assemble.program _ _ (c.deref.ensures.value ∙ c.in-Ok.ensures.whole given.source holds.source)
-    c.parts_of-parts.ensures.source c.parts_of-parts.ensures.deck c.in-Ok-assemble.ensures.ok
-    (c.in-Err-units_of_run.ensures.units given holds.deck holds.cards holds.typewriter))
+returns-in-Err-units_of_run-clause-output g c given holds = (
+  [],
+  prints-no_units [] c.args.plan.now given _ _ _ c.in-Ok-assemble.program _ _ (c.deref.ensures.value ∙ c.in-Ok.ensures.whole given.source holds.source)
+      c.parts_of-parts.ensures.source c.parts_of-parts.ensures.deck c.in-Ok-assemble.ensures.ok
+      (c.in-Err-units_of_run.ensures.units given holds.deck holds.cards holds.typewriter),
+)
 
 pub returns-clause-output : goal.returns-clause-output
 returns-clause-output g c given holds =
@@ -41,12 +45,14 @@ returns-clause-output g c given holds =
     let latex = c.run_printed-printed.ensures.0 in
     let outcome = outcome_of_run latex c.options_of-options.result c.as_bytes-subject.result.now c.in-Ok-assemble.program c.in-Ok-units_of_run.units in
     let drawn = DrawnRun c.options_of-options.result c.as_bytes-subject.result.now c.in-Ok-assemble.program c.in-Ok-units_of_run.units in
-    let prints = leaves-prints outcome drawn c.run_printed-printed.result _ _ _ _ c.run_printed-printed.ensures.1 in
-    (latex, subst (λ r. Prints (run_output latex c.args.plan.now given) r (g.W.Out.told c.args.streams.now.out) (g.W.Out.told c.run_printed-printed.new.out))
-    (sym c.of_file-in-Ok-assemble.ensures.answer) (prints-made latex c.args.plan.now given _ _ _ c.in-Ok-assemble.program c.in-Ok-units_of_run.units c.run_printed-printed.result _ _
-    (c.deref.ensures.value ∙ c.in-Ok.ensures.whole given.source holds.source) c.parts_of-parts.ensures.source c.parts_of-parts.ensures.deck
-    c.in-Ok-assemble.ensures.ok (c.in-Ok-units_of_run.ensures.units given holds.deck holds.cards holds.typewriter)
-    (rw (c.options_of-options.ensures, part) at prints)))
+    let prints = leaves-prints outcome drawn c.run_printed-printed.result _ _ _ _ c.run_printed-printed.ensures.1 in (
+      latex,
+      subst (λ r. Prints (run_output latex c.args.plan.now given) r (g.W.Out.told c.args.streams.now.out) (g.W.Out.told c.run_printed-printed.new.out))
+          (sym c.of_file-in-Ok-assemble.ensures.answer) (prints-made latex c.args.plan.now given _ _ _ c.in-Ok-assemble.program c.in-Ok-units_of_run.units c.run_printed-printed.result _ _
+          (c.deref.ensures.value ∙ c.in-Ok.ensures.whole given.source holds.source) c.parts_of-parts.ensures.source c.parts_of-parts.ensures.deck
+          c.in-Ok-assemble.ensures.ok (c.in-Ok-units_of_run.ensures.units given holds.deck holds.cards holds.typewriter)
+          (rw (c.options_of-options.ensures, part) at prints)),
+    )
 
 pub returns-clause-map : goal.returns-clause-map
 returns-clause-map g c given holds =

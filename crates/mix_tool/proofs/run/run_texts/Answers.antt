@@ -13,16 +13,19 @@ pub returns-clause-done : goal.returns-clause-done
 returns-clause-done g c all given e holds =
     let files = file-among c.args.plan.now c.print_texts-ran.result c.parted-printed.result.1.now (rw c.as_str.ensures.value at c.parted-printed.ensures.source) c.parted-printed.ensures.file
     c.print_texts-ran.ensures.file in
-    let prints = c.print_texts-ran.ensures.output given holds in inl (prints.0, (
-      c.parted-printed.result.0,
-      _,
-      _,
-      _,
-      rw c.parted-printed.ensures.ran prints.1,
-      files,
-      c.print_status-status.ensures.told,
-      rw c.print_status-status.ensures.status at c.save_files.ensures.told,
-    ))
+    let prints = c.print_texts-ran.ensures.output given holds in inl (
+      prints.0,
+      (
+        c.parted-printed.result.0,
+        _,
+        _,
+        _,
+        rw c.parted-printed.ensures.ran prints.1,
+        files,
+        c.print_status-status.ensures.told,
+        rw c.print_status-status.ensures.status at c.save_files.ensures.told,
+      ),
+    )
 
 pub returns-clause-created : goal.returns-clause-created
 returns-clause-created g c =

@@ -1,7 +1,6 @@
 use Rattle.std.proofs.Common.{ap, ◌∙◌, ◌++◌, List}
 use Rattle.mix_lines.specs.Lines.{lines}
-use Rattle.mixal_asm.specs.declared.diagnostic.Diagnostic.{Diagnostic}
-use Rattle.mixal_asm.specs.Diagnose.{up_to_end, warnings_from}
+use Rattle.mixal_asm.specs.Prelude.{Diagnostic, up_to_end, warnings_from}
 use Rattle.mixal_asm.proofs.DiagnoseLemmas.{same_warnings}
 use Rattle.mixal_asm.proofs.diagnosis.warnings_up_to_end.Goals as goal
 

@@ -1,7 +1,6 @@
 use Rattle.std.proofs.Common.{◌≡◌, length}
 use Rattle.mix_lines.specs.Lines.{lines}
-use Rattle.mixal_asm.specs.Faults.{program_with}
-use Rattle.mixal_asm.specs.Draft.{IsReady}
+use Rattle.mixal_asm.specs.Prelude.{program_with, IsReady}
 use Rattle.mixal_asm.proofs.faults.add_lines_with.Given as goal
 
 abbrev pub invariant-loop-rest : goal.invariant-loop-rest

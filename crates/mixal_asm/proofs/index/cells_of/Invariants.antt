@@ -1,7 +1,6 @@
 use Rattle.std.proofs.Common.{map, take}
 use Rattle.std.specs.List.Sorted.{IsNonDecreasingBy}
-use Rattle.mixal_asm.specs.Row.{row_value}
-use Rattle.mixal_asm.specs.Index.{IsFirstFrom}
+use Rattle.mixal_asm.specs.Prelude.{row_value, IsFirstFrom}
 use Rattle.mixal_asm.proofs.index.cells_of.Given as goal
 
 abbrev pub invariant-loop-row : goal.invariant-loop-row

@@ -1,7 +1,5 @@
 use Rattle.std.proofs.Common.{◌≡◌, length, map, take}
-use Rattle.mixal_asm.specs.Row.{row_value}
-use Rattle.mixal_asm.specs.Source.{source_in}
-use Rattle.mixal_asm.specs.Index.{LeadsToLast}
+use Rattle.mixal_asm.specs.Prelude.{row_value, source_in, LeadsToLast}
 use Rattle.mixal_asm.proofs.index.last_rows.Given as goal
 
 abbrev pub invariant-loop-i : goal.invariant-loop-i

@@ -1,6 +1,5 @@
 use Rattle.std.proofs.Common.{◌≡◌, length, take}
-use Rattle.mixal_asm.specs.Source.{word_in}
-use Rattle.mixal_asm.specs.Index.{LeadsToLast}
+use Rattle.mixal_asm.specs.Prelude.{word_in, LeadsToLast}
 use Rattle.mixal_asm.proofs.index.last_words.Given as goal
 
 abbrev pub invariant-loop-i : goal.invariant-loop-i

@@ -1,6 +1,5 @@
 use Rattle.std.proofs.Common.{map, take}
-use Rattle.mixal_asm.specs.Row.{row_value}
-use Rattle.mixal_asm.specs.Index.{HasDefinitions}
+use Rattle.mixal_asm.specs.Prelude.{row_value, HasDefinitions}
 use Rattle.mixal_asm.proofs.index.lines_of.Given as goal
 
 abbrev pub invariant-loop-row : goal.invariant-loop-row

@@ -1,6 +1,5 @@
 use Rattle.std.proofs.Common.{◌≡◌, ◌++◌, map, take}
-use Rattle.mixal_asm.specs.Row.{row_value}
-use Rattle.mixal_asm.specs.Listing.{rows_text}
+use Rattle.mixal_asm.specs.Prelude.{row_value, rows_text}
 use Rattle.mixal_asm.proofs.listing.add_rows.Given as goal
 
 abbrev pub invariant-loop-row : goal.invariant-loop-row

@@ -1,8 +1,7 @@
 use Rattle.std.proofs.Common.{◌≡◌, ◌+◌, ◌++◌, length}
 use Rattle.std.specs.Prelude.{option_copied}
 use Rattle.std.specs.List.{slice_split}
-use Rattle.mixal_text.specs.Atom.{is_other}
-use Rattle.mixal_text.specs.Words.{length_with_one, pieces_of}
+use Rattle.mixal_text.specs.Prelude.{is_other, length_with_one, pieces_of}
 use Rattle.mixal_asm.specs.Mentions.{uses_from}
 use Rattle.mixal_asm.proofs.mentioned.add_uses.Given as goal
 

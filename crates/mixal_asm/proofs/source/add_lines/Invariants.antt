@@ -1,7 +1,6 @@
 use Rattle.std.proofs.Common.{◌≡◌, length}
 use Rattle.mix_lines.specs.Lines.{lines}
-use Rattle.mixal_asm.specs.Assembly.{program_from}
-use Rattle.mixal_asm.specs.Draft.{IsReady}
+use Rattle.mixal_asm.specs.Prelude.{program_from, IsReady}
 use Rattle.mixal_asm.proofs.source.add_lines.Given as goal
 
 abbrev pub invariant-loop-rest : goal.invariant-loop-rest

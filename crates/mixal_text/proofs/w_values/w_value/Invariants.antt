@@ -1,8 +1,6 @@
 use Rattle.std.proofs.Common.{◌≡◌, ◌+◌, ◌≤◌, length}
 use Rattle.std.specs.Prelude.{option_copied}
-use Rattle.mixal_text.specs.Part.{is_comma}
-use Rattle.mixal_text.specs.WValue.{w_value_of}
-use Rattle.mixal_text.specs.Words.{pieces_of, length_with_one}
+use Rattle.mixal_text.specs.Prelude.{is_comma, w_value_of, pieces_of, length_with_one}
 use Rattle.mixal_text.proofs.WValueLemmas.{left_of}
 use Rattle.mixal_text.proofs.w_values.w_value.Given as goal
 

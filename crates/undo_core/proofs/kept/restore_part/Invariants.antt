@@ -1,6 +1,5 @@
 use Rattle.std.proofs.Common.{◌≡◌, ◌-◌, ◌<◌, ◌≤◌, length, take, drop, reverse, false, Some, IsSome}
-use Rattle.undo_core.specs.Counts.{newest_part, is_ended}
-use Rattle.undo_core.specs.Replay.{put_back}
+use Rattle.undo_core.specs.Prelude.{newest_part, is_ended, put_back}
 use Rattle.undo_core.proofs.kept.restore_part.Given as goal
 
 abbrev pub invariant-loop-many : goal.invariant-loop-many

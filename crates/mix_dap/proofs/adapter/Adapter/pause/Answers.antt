@@ -1,7 +1,6 @@
 -- The answer, and then that the program stands.
 use Rattle.std.proofs.Common.{[], ◌∷◌, codes}
-use Rattle.mix_dap.specs.Events.{stopped}
-use Rattle.mix_dap.specs.Stopped.{only}
+use Rattle.mix_dap.specs.Prelude.{stopped, only}
 use Rattle.mix_dap.proofs.EventLemmas.{reply-alone, reply-then}
 use Rattle.mix_dap.proofs.adapter.Adapter.pause.Goals as goal
 

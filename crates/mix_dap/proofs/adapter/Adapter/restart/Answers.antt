@@ -1,8 +1,7 @@
 -- The session is at its first state, and that is told.
 use Rattle.std.proofs.Common.{IfOk, subst}
 use Rattle.mix_session.specs.Timeline.{Timeline}
-use Rattle.mix_dap.specs.Reaction.{beside, restarted}
-use Rattle.mix_dap.specs.Reacts.{Answered}
+use Rattle.mix_dap.specs.Prelude.{beside, restarted, Answered}
 use Rattle.mix_dap.proofs.adapter.Adapter.restart.Goals as goal
 
 pub returns-in-Ok-clause-reacts : goal.returns-in-Ok-clause-reacts

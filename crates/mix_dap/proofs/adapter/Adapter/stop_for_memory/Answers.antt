@@ -1,8 +1,7 @@
 -- The rows, and then why.
 use Rattle.std.proofs.Common.{[], ◌∷◌}
 use Rattle.mix_session.specs.Timeline.{world_of}
-use Rattle.mix_dap.specs.Events.{stopped}
-use Rattle.mix_dap.specs.Stopped.{out_of_memory}
+use Rattle.mix_dap.specs.Prelude.{stopped, out_of_memory}
 use Rattle.mix_dap.proofs.EventLemmas.{rows-then}
 use Rattle.mix_dap.proofs.adapter.Adapter.stop_for_memory.Goals as goal
 

@@ -1,8 +1,7 @@
 -- The rows, and then why.
 use Rattle.std.proofs.Common.{Some}
 use Rattle.mix_session.specs.Timeline.{world_of}
-use Rattle.mix_dap.specs.Ended.{end_told}
-use Rattle.mix_dap.specs.Runs.{why_of_run}
+use Rattle.mix_dap.specs.Prelude.{end_told, why_of_run}
 use Rattle.mix_dap.proofs.EventLemmas.{rows-then}
 use Rattle.mix_dap.proofs.adapter.Adapter.stop_run.Goals as goal
 

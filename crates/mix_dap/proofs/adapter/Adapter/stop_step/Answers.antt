@@ -1,9 +1,7 @@
 -- The rows, and then why.
 use Rattle.std.proofs.Common.{[], ◌∷◌}
 use Rattle.mix_session.specs.Timeline.{world_of}
-use Rattle.mix_dap.specs.Events.{stopped}
-use Rattle.mix_dap.specs.Runs.{word_at}
-use Rattle.mix_dap.specs.Stopped.{why_of}
+use Rattle.mix_dap.specs.Prelude.{stopped, word_at, why_of}
 use Rattle.mix_dap.proofs.EventLemmas.{rows-then}
 use Rattle.mix_dap.proofs.adapter.Adapter.stop_step.Goals as goal
 

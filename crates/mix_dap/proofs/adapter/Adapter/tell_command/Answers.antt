@@ -1,8 +1,7 @@
 -- The answer, the rows, and then what is out of date.
 use Rattle.std.proofs.Common.{rules, refl, ◌++◌}
 use Rattle.mix_session.specs.Timeline.{world_of}
-use Rattle.mix_dap.specs.Events.{invalidated}
-use Rattle.mix_dap.specs.Output.{outputs}
+use Rattle.mix_dap.specs.Prelude.{invalidated, outputs}
 use Rattle.mix_dap.proofs.EventLemmas.{reply-then, rows-then}
 use Rattle.mix_dap.proofs.adapter.Adapter.tell_command.Goals as goal
 

@@ -1,10 +1,7 @@
 -- The answer, the rows, and then why.
 use Rattle.std.proofs.Common.{rules, [], ◌∷◌, ◌++◌}
 use Rattle.mix_session.specs.Timeline.{world_of}
-use Rattle.mix_dap.specs.Events.{stopped}
-use Rattle.mix_dap.specs.Output.{outputs}
-use Rattle.mix_dap.specs.Runs.{word_at}
-use Rattle.mix_dap.specs.Stopped.{end_of, why_of}
+use Rattle.mix_dap.specs.Prelude.{stopped, outputs, word_at, end_of, why_of}
 use Rattle.mix_dap.proofs.EventLemmas.{reply-alone, reply-then}
 use Rattle.mix_dap.proofs.adapter.Adapter.tell_step.Goals as goal
 

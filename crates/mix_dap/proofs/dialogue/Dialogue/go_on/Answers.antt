@@ -1,7 +1,7 @@
 -- The talk over what the dialogue holds is a part of it, with nothing read before; the numbers go on.
 use Rattle.std.proofs.Common.{◌≡◌, ℕ, Err, ap, sym, ◌∙◌}
 use Rattle.std.proofs.lemmas.Result.{err_from_is_err_and}
-use Rattle.dap_stream.specs.Hearing.{kept}
+use Rattle.rpc_stream.specs.Hearing.{kept}
 use Rattle.mix_dap.specs.Dialogue.{Reached}
 use Rattle.mix_dap.specs.Stage.{stage_of}
 use Rattle.mix_dap.specs.declared.served.Holds.{Holds}

@@ -1,8 +1,7 @@
 use Rattle.std.proofs.Common.{◌≡◌, ◌+◌, ◌-◌, ◌*◌, ◌<◌, ◌∙◌, ℕ, List, ap, arith, drop, length, refl, subst, sym, take, vec_items}
 use Rattle.std.proofs.lemmas.Bool.Decides.{nat_tests}
 use Rattle.std.proofs.lemmas.List.{take_all}
-use Rattle.mix_machine.specs.Cells.{IsRow, words_of}
-use Rattle.mix_machine.specs.Pack.{header_of, said}
+use Rattle.mix_machine.specs.Prelude.{IsRow, words_of, header_of, said}
 use Rattle.mix_machine.specs.declared.pack.kind.Kind.TheVariants as kind
 use Rattle.mix_machine.proofs.RowLemmas.{row-appended}
 use Rattle.mix_machine.proofs.pack.row.append_row.Goals as goal

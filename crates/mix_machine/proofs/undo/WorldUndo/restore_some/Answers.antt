@@ -1,9 +1,7 @@
 -- The units end in their header.
 use Rattle.std.proofs.Common.{◌≡◌, ◌-◌, ◌∙◌, List, length, take, drop, ap, sym, subst, Some, IsSome, arith}
 use Rattle.undo_core.specs.Replay.{put_back}
-use Rattle.mix_machine.specs.Pack.{said}
-use Rattle.mix_machine.specs.Write.{put_value}
-use Rattle.mix_machine.specs.declared.old.Old.{Old}
+use Rattle.mix_machine.specs.Prelude.{said, put_value, Old}
 use Rattle.mix_machine.proofs.PartLemmas.{part-longer}
 use Rattle.mix_machine.proofs.undo.WorldUndo.restore_some.Goals as goal
 

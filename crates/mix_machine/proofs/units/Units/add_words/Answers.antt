@@ -1,7 +1,6 @@
 use Rattle.std.proofs.Common.{◌<◌, ◌∙◌}
 use Rattle.mix_word.specs.Uses.{unit_count}
-use Rattle.mix_machine.specs.units.Unit.{UnitState, with_row}
-use Rattle.mix_machine.specs.units.Keep.{keep-add_row}
+use Rattle.mix_machine.specs.Prelude.{UnitState, with_row, keep-add_row}
 use Rattle.mix_machine.proofs.UnitsLemmas.{keep-grown}
 use Rattle.mix_machine.proofs.units.Units.add_words.Goals as goal
 

@@ -1,7 +1,6 @@
 use Rattle.std.proofs.Common.{◌∙◌}
 use Rattle.mix_word.specs.Uses.{unit_count}
-use Rattle.mix_machine.specs.units.Unit.{UnitState}
-use Rattle.mix_machine.specs.units.Units.{can_cut, cut_to, unit_of}
+use Rattle.mix_machine.specs.Prelude.{UnitState, can_cut, cut_to, unit_of}
 use Rattle.mix_machine.specs.units.Keep.{keep-set_length}
 use Rattle.std.proofs.lemmas.Bool.{and_parts}
 use Rattle.std.proofs.Common.{nat_lt}

@@ -1,6 +1,5 @@
 use Rattle.std.proofs.Common.{◌≡◌, take, map}
-use Rattle.mix_machine.specs.units.UnitKind.{kinds}
-use Rattle.mix_machine.specs.units.Unit.{empty_unit}
+use Rattle.mix_machine.specs.Prelude.{kinds, empty_unit}
 use Rattle.mix_machine.proofs.units.Units.empty.Given as goal
 
 abbrev pub invariant-loop-kind : goal.invariant-loop-kind

@@ -1,13 +1,6 @@
 use Rattle.std.proofs.Common.{◌-◌, ◌++◌, ◌∷◌, [], length, ap, sym, subst, refl, ◌∙◌}
-use Rattle.mix_machine.specs.World.{IsWorld, unit_at}
-use Rattle.mix_machine.specs.View.{view_of}
-use Rattle.mix_machine.specs.UnitAction.{transfer_end}
-use Rattle.mix_machine.specs.Write.{set, busy, grow, words_out, place_after}
-use Rattle.mix_machine.specs.law.Wrote.{Wrote}
-use Rattle.mix_machine.specs.units.UnitKind.{has_place, has_medium}
-use Rattle.mix_machine.specs.law.Plans.{fits-until-in}
+use Rattle.mix_machine.specs.Prelude.{IsWorld, unit_at, view_of, transfer_end, set, busy, grow, words_out, place_after, Wrote, has_place, has_medium, fits-until-in, Len, Until}
 use Rattle.mix_machine.specs.law.Units.{fits-place-grown}
-use Rattle.mix_machine.specs.declared.old.Old.TheVariants.{Len, Until}
 use Rattle.mix_machine.proofs.TransferLemmas.{transferred, world-grown, with-grown, to-grown, room-grown, blocks-of, length-of}
 use Rattle.mix_machine.proofs.WriteLemmas.{wrote-none, joined, room-first, room-next, room-rest}
 use Rattle.mix_machine.proofs.world.World.append.Goals as goal

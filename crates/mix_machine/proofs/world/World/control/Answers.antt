@@ -1,8 +1,6 @@
 use Rattle.std.proofs.Common.{◌≡◌, ap}
-use Rattle.mix_machine.specs.World.{unit_at}
-use Rattle.mix_machine.specs.View.{view_of}
+use Rattle.mix_machine.specs.Prelude.{unit_at, view_of, Printer}
 use Rattle.mix_machine.specs.UnitAction.{marks_page}
-use Rattle.mix_machine.specs.declared.units.kind.UnitKind.TheVariants.{Printer}
 use Rattle.mix_machine.proofs.TransferLemmas.{world-printed}
 use Rattle.mix_machine.proofs.world.World.control.Goals as goal
 

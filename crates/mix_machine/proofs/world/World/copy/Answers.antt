@@ -2,9 +2,7 @@ use Rattle.std.proofs.Common.{◌≡◌, ◌+◌, ◌-◌, ◌∙◌, List, ap, 
 use Rattle.std.proofs.lemmas.List.{with_items_is}
 use Rattle.std.specs.Vec.{with_items}
 use Rattle.mix_word.specs.Word.{WordValue}
-use Rattle.mix_machine.specs.Cells.{cell_values, with_copies}
-use Rattle.mix_machine.specs.View.{view_of}
-use Rattle.mix_machine.specs.World.{IsWorld}
+use Rattle.mix_machine.specs.Prelude.{cell_values, with_copies, view_of, IsWorld}
 use Rattle.mix_machine.proofs.CopyLemmas.{copy-room, copy-wrote}
 use Rattle.mix_machine.proofs.world.World.copy.Goals as goal
 

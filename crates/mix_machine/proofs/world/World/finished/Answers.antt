@@ -1,8 +1,6 @@
 use Rattle.std.proofs.Common.{◌≤◌, length, sym, subst, arith}
 use Rattle.mix_word.specs.declared.decoding.Decoded.TheVariants.{Named}
-use Rattle.mix_machine.specs.World.{IsWorld}
-use Rattle.mix_machine.specs.Write.{writes_of}
-use Rattle.mix_machine.specs.KeptCount.{most_kept}
+use Rattle.mix_machine.specs.Prelude.{IsWorld, writes_of, most_kept}
 use Rattle.mix_machine.specs.law.Undone.{step-fits}
 use Rattle.mix_machine.proofs.Counting.{few_in_step}
 use Rattle.mix_machine.proofs.world.World.finished.Goals as goal

@@ -1,10 +1,6 @@
 use Rattle.std.proofs.Common.{◌≡◌, ◌+◌, IsTrue, refl, subst, arith}
-use Rattle.mix_machine.specs.World.{IsWorld, cell_of}
-use Rattle.mix_machine.specs.Write.{set, from_cell}
-use Rattle.mix_machine.specs.units.Units.{fits_item}
-use Rattle.mix_machine.specs.law.Fits.{world-set_value}
+use Rattle.mix_machine.specs.Prelude.{IsWorld, cell_of, set, from_cell, fits_item, world-set_value, Item}
 use Rattle.mix_machine.specs.law.Units.{fits-item-after}
-use Rattle.mix_machine.specs.declared.old.Old.TheVariants.{Item}
 use Rattle.mix_machine.proofs.WriteLemmas.{wrote-none}
 use Rattle.mix_machine.proofs.EachLemmas.{each-written, each-room, each-done}
 use Rattle.mix_machine.proofs.world.World.from_cells.Goals as goal

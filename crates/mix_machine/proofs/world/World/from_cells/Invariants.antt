@@ -1,8 +1,5 @@
 use Rattle.std.proofs.Common.{ℕ, ◌≡◌, ◌<◌, IsTrue}
-use Rattle.mix_machine.specs.World.{IsWorld}
-use Rattle.mix_machine.specs.Write.{each, from_cell}
-use Rattle.mix_machine.specs.law.Wrote.{Wrote}
-use Rattle.mix_machine.specs.units.Units.{fits_item}
+use Rattle.mix_machine.specs.Prelude.{IsWorld, each, from_cell, Wrote, fits_item}
 use Rattle.mix_machine.proofs.world.World.from_cells.Given as goal
 
 abbrev pub invariant-loop-j : goal.invariant-loop-j

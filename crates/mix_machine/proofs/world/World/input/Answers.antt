@@ -1,9 +1,5 @@
 use Rattle.std.proofs.Common.{◌≡◌, ◌∙◌, ◌∷◌, length, ap, sym, subst}
-use Rattle.mix_machine.specs.World.{IsWorld}
-use Rattle.mix_machine.specs.Write.{set, each, busy, from_block, place_after}
-use Rattle.mix_machine.specs.UnitAction.{transfer_end}
-use Rattle.mix_machine.specs.declared.old.Old.TheVariants.{Until}
-use Rattle.mix_machine.specs.units.UnitKind.{block_length}
+use Rattle.mix_machine.specs.Prelude.{IsWorld, set, each, busy, from_block, place_after, transfer_end, Until, block_length}
 use Rattle.mix_machine.specs.law.Plans.{ready, fits-until-in}
 use Rattle.mix_machine.proofs.EachLemmas.{length-each}
 use Rattle.mix_machine.proofs.WriteLemmas.{room-first, room-next, room-last}

@@ -1,9 +1,7 @@
 use Rattle.std.proofs.Common.{◌≡◌, ◌∙◌, sym, ap, ◌==◌, false, arith}
 use Rattle.std.proofs.lemmas.Bool.Decides.{nat_tests}
 use Rattle.mix_word.specs.declared.decoding.Decoded.TheVariants.{Named}
-use Rattle.mix_machine.specs.Effects.{effects}
-use Rattle.mix_machine.specs.Order.{applies}
-use Rattle.mix_machine.specs.Do.{step_plan}
+use Rattle.mix_machine.specs.Prelude.{effects, applies, step_plan}
 use Rattle.mix_machine.specs.law.Stages.{timed_or_fault}
 use Rattle.mix_machine.proofs.StageLemmas.{fault-of-operation, fault-of-clock}
 use Rattle.mix_machine.proofs.world.World.plan_of_served.Goals as goal

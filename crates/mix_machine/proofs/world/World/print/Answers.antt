@@ -1,12 +1,5 @@
 use Rattle.std.proofs.Common.{◌++◌, ◌∷◌, [], ap, sym, refl, ◌∙◌}
-use Rattle.mix_machine.specs.View.{view_of}
-use Rattle.mix_machine.specs.Write.{busy, print, words_out}
-use Rattle.mix_machine.specs.law.Wrote.{Wrote}
-use Rattle.mix_machine.specs.units.UnitKind.{has_medium}
-use Rattle.mix_machine.specs.units.Row.{row_of}
-use Rattle.mix_machine.specs.declared.old.Old.TheVariants.{Len}
-use Rattle.mix_machine.specs.UnitAction.{transfer_end}
-use Rattle.mix_machine.specs.law.Plans.{fits-until-in}
+use Rattle.mix_machine.specs.Prelude.{view_of, busy, print, words_out, Wrote, has_medium, row_of, Len, transfer_end, fits-until-in}
 use Rattle.mix_machine.proofs.TransferLemmas.{transferred, world-printed, with-grown, to-printed, rows-room, length-of}
 use Rattle.mix_machine.proofs.WriteLemmas.{wrote-none, room-rest}
 use Rattle.mix_machine.proofs.world.World.print.Goals as goal

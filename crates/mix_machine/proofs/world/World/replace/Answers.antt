@@ -1,9 +1,5 @@
 use Rattle.std.proofs.Common.{◌≡◌, ◌∙◌, ◌∷◌, length, ap, sym, subst}
-use Rattle.mix_machine.specs.World.{IsWorld}
-use Rattle.mix_machine.specs.UnitAction.{transfer_end}
-use Rattle.mix_machine.specs.Write.{set, set_value, busy, each, from_cell, place_after}
-use Rattle.mix_machine.specs.units.UnitKind.{block_length, has_medium}
-use Rattle.mix_machine.specs.declared.old.Old.TheVariants.{Until}
+use Rattle.mix_machine.specs.Prelude.{IsWorld, transfer_end, set, set_value, busy, each, from_cell, place_after, block_length, has_medium, Until}
 use Rattle.mix_machine.specs.law.Plans.{fits-until-in, items-ready}
 use Rattle.mix_machine.proofs.EachLemmas.{length-each}
 use Rattle.mix_machine.proofs.WriteLemmas.{room-first, room-next, room-last}

@@ -2,8 +2,7 @@
 use Rattle.std.proofs.Common.{◌≡◌, ◌/◌, ◌%◌, nat_eq, true, ◌++◌, ◌∷◌, [], ◌∙◌, ap, sym, refl, arith, Some}
 use Rattle.mix_word.specs.Word.{WordValue}
 use Rattle.mix_word.specs.declared.register.Reg.TheVariants as reg
-use Rattle.mix_machine.specs.World.{WorldState}
-use Rattle.mix_machine.specs.Write.{set_value}
+use Rattle.mix_machine.specs.Prelude.{WorldState, set_value}
 use Rattle.mix_machine.specs.declared.old.Old.TheVariants as old
 use Rattle.mix_machine.specs.Pack.{said, short_word, wide_bits, before_jump, jump_said}
 use Rattle.mix_machine.proofs.PutLemmas.{three-put}

@@ -1,8 +1,7 @@
 -- The last value is that of the header.
 use Rattle.std.proofs.Common.{◌≡◌, ◌++◌, ◌∷◌, [], ◌∙◌, List, ℕ, reverse, ap, sym, refl, arith}
 use Rattle.std.proofs.lemmas.List.{reverse-reverse}
-use Rattle.mix_machine.specs.Pack.{said}
-use Rattle.mix_machine.specs.declared.pack.anchor.Anchor.{Anchor}
+use Rattle.mix_machine.specs.Prelude.{said, Anchor}
 use Rattle.mix_machine.proofs.PackLemmas.{header-value, fits-alone}
 use Rattle.mix_machine.proofs.RowLemmas.{last-fits, one-restored}
 use Rattle.mix_machine.proofs.world.World.restore_one.Goals as goal

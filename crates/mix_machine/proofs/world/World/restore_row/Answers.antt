@@ -2,9 +2,7 @@ use Rattle.std.proofs.Common.{◌≡◌, ◌-◌, ◌≤◌, ◌∙◌, ℕ, Lis
 use Rattle.std.proofs.lemmas.List.{take_rest, with_items_is}
 use Rattle.std.specs.Vec.{with_items}
 use Rattle.mix_word.specs.Word.{WordValue}
-use Rattle.mix_machine.specs.Cells.{with_words, words_of}
-use Rattle.mix_machine.specs.View.{view_of}
-use Rattle.mix_machine.specs.World.{WorldState}
+use Rattle.mix_machine.specs.Prelude.{with_words, words_of, view_of, WorldState}
 use Rattle.mix_machine.proofs.CopyLemmas.{same-cells}
 use Rattle.mix_machine.proofs.RowLemmas.{row-restored}
 use Rattle.mix_machine.proofs.world.World.restore_row.Goals as goal

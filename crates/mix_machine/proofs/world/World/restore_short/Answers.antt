@@ -1,8 +1,7 @@
 -- The header says the register, the location and the clock.
 use Rattle.std.proofs.Common.{◌≡◌, ◌/◌, ◌%◌, ◌^◌, nat_eq, true, ◌++◌, ◌∷◌, [], ◌∙◌, ap, sym, refl, arith, Some}
 use Rattle.mix_word.specs.Word.{WordValue}
-use Rattle.mix_machine.specs.World.{WorldState}
-use Rattle.mix_machine.specs.Write.{set_value}
+use Rattle.mix_machine.specs.Prelude.{WorldState, set_value}
 use Rattle.mix_machine.specs.declared.old.Old.TheVariants as old
 use Rattle.mix_machine.specs.Pack.{said, short_word, wide_bits, before_short, short_said}
 use Rattle.mix_machine.proofs.PutLemmas.{three-put}

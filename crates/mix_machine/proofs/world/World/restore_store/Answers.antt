@@ -1,8 +1,7 @@
 -- The header says the location and the clock, and with the word before it the cell.
 use Rattle.std.proofs.Common.{◌∙◌, ap, sym, refl, arith, Some}
 use Rattle.mix_word.specs.Word.{WordValue}
-use Rattle.mix_machine.specs.World.{WorldState}
-use Rattle.mix_machine.specs.Write.{set_value}
+use Rattle.mix_machine.specs.Prelude.{WorldState, set_value}
 use Rattle.mix_machine.specs.declared.old.Old.TheVariants as old
 use Rattle.mix_machine.specs.Pack.{said, before_store, store_said}
 use Rattle.mix_machine.proofs.PutLemmas.{after_two}

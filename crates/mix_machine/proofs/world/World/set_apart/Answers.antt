@@ -1,10 +1,5 @@
 use Rattle.std.proofs.Common.{◌≡◌, IsTrue}
-use Rattle.mix_machine.specs.World.{WorldState}
-use Rattle.mix_machine.specs.View.{view_of}
-use Rattle.mix_machine.specs.Write.{fits}
-use Rattle.mix_machine.specs.law.Fits.{world-set_value}
-use Rattle.mix_machine.specs.declared.old.Old.{Old}
-use Rattle.mix_machine.specs.declared.old.Old.TheVariants.{At, Len, Item, Until}
+use Rattle.mix_machine.specs.Prelude.{WorldState, view_of, fits, world-set_value, Old, At, Len, Item, Until}
 use Rattle.mix_machine.proofs.world.World.set_apart.Goals as goal
 
 fits-here : (v w : WorldState) (o p : Old) → v ≡ w → o ≡ p → IsTrue (fits w o) → IsTrue (fits v p)

@@ -1,13 +1,8 @@
 use Rattle.std.proofs.Common.{◌≡◌, sym, subst, ◌==◌, false, Result, Err, rules, arith}
 use Rattle.std.proofs.lemmas.Bool.Decides.{nat_tests}
 use Rattle.mix_refused.specs.declared.refused.Refused.{Refused}
-use Rattle.mix_word.specs.Table.{decode_of}
-use Rattle.mix_word.specs.Word.{parts_of}
-use Rattle.mix_machine.specs.Decode.{arguments_of}
-use Rattle.mix_machine.specs.Order.{operation_or_nop}
-use Rattle.mix_machine.specs.Do.{step_or_fault, step_plan}
-use Rattle.mix_machine.specs.law.Carried.{Carried}
-use Rattle.mix_machine.specs.declared.fault.MixFault.{MixFault}
+use Rattle.mix_word.specs.Prelude.{decode_of, parts_of}
+use Rattle.mix_machine.specs.Prelude.{arguments_of, operation_or_nop, step_or_fault, step_plan, Carried, MixFault}
 use Rattle.mix_machine.proofs.StageLemmas.{fault-of-address}
 use Rattle.mix_machine.proofs.world.World.step_of_word.Goals as goal
 

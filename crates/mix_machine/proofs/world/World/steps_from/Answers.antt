@@ -1,8 +1,7 @@
 -- A step more, or none.
 use Rattle.std.proofs.Common.{◌≡◌, ◌+◌, inl, inr, refl, subst, arith}
-use Rattle.mix_machine.specs.World.{IsWorld}
+use Rattle.mix_machine.specs.Prelude.{IsWorld, ends_if}
 use Rattle.std.specs.Option.{option_map}
-use Rattle.mix_machine.specs.Many.{ends_if}
 use Rattle.mix_machine.proofs.StepsLemmas.{step-more, stepped, refused, why-told}
 use Rattle.mix_machine.proofs.world.World.steps_from.Goals as goal
 

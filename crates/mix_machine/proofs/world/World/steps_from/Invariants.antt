@@ -1,9 +1,7 @@
 use Rattle.std.proofs.Common.{◌≡◌, ◌-◌, ◌<◌, ◌≤◌, ◌++◌, List, true}
-use Rattle.mix_machine.specs.World.{cell_of}
+use Rattle.mix_machine.specs.Prelude.{cell_of, Old, ends_if}
 use Rattle.mix_machine.specs.law.Steps.{Steps, steps_on}
-use Rattle.mix_machine.specs.declared.old.Old.{Old}
 use Rattle.std.specs.Option.{option_map}
-use Rattle.mix_machine.specs.Many.{ends_if}
 use Rattle.mix_machine.proofs.world.World.steps_from.Given as goal
 
 abbrev pub invariant-loop-done : goal.invariant-loop-done

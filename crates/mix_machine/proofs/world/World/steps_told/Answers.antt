@@ -1,7 +1,6 @@
 use Rattle.std.proofs.Common.{◌≡◌, ◌<◌, subst, arith}
-use Rattle.mix_machine.specs.World.{WorldState}
+use Rattle.mix_machine.specs.Prelude.{WorldState, ends_if}
 use Rattle.std.specs.Option.{option_map}
-use Rattle.mix_machine.specs.Many.{ends_if}
 use Rattle.mix_machine.proofs.StepsLemmas.{none-there}
 use Rattle.mix_machine.proofs.world.World.steps_told.Goals as goal
 

@@ -1,9 +1,5 @@
 use Rattle.std.proofs.Common.{◌≡◌, ◌+◌, ◌∙◌, ap, refl, arith}
-use Rattle.mix_machine.specs.World.{WorldState, unit_at}
-use Rattle.mix_machine.specs.Write.{set, from_block}
-use Rattle.mix_machine.specs.units.Unit.{UnitState, word_of}
-use Rattle.mix_machine.specs.units.Units.{UnitsState, unit_of}
-use Rattle.mix_machine.specs.declared.old.Old.TheVariants.{Cell}
+use Rattle.mix_machine.specs.Prelude.{WorldState, unit_at, set, from_block, UnitState, word_of, UnitsState, unit_of, Cell}
 use Rattle.mix_machine.proofs.WriteLemmas.{wrote-none}
 use Rattle.mix_machine.proofs.EachLemmas.{each-written, each-room, each-done, cell-below}
 use Rattle.mix_machine.proofs.world.World.to_cells.Goals as goal

@@ -1,6 +1,5 @@
 use Rattle.std.proofs.Common.{◌≡◌}
-use Rattle.mix_machine.specs.Write.{each, from_block}
-use Rattle.mix_machine.specs.law.Wrote.{Wrote}
+use Rattle.mix_machine.specs.Prelude.{each, from_block, Wrote}
 use Rattle.mix_machine.proofs.world.World.to_cells.Given as goal
 
 abbrev pub invariant-loop-j : goal.invariant-loop-j

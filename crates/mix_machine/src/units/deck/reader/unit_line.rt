@@ -1,9 +1,7 @@
 //! A line of a unit, below its header: words, or the characters of a card or of a line of text.
 ghost use Rattle.std.specs.Prelude.{◌≡◌, ◌≤◌, ◌+◌, ◌*◌, ◌++◌, OnOk, length, vec_len};
 ghost use Rattle.mix_lines.specs.Lines.{words};
-ghost use Rattle.mix_machine.specs.units.UnitKind.{block_length};
-ghost use Rattle.mix_machine.specs.units.Unit.{most_entries};
-ghost use Rattle.mix_machine.specs.units.deck.Block.{deck_words, words_from};
+ghost use Rattle.mix_machine.specs.Prelude.{block_length, most_entries, deck_words, words_from};
 ghost use Rattle.mix_machine.specs.units.deck.Deck.{Gives, with_words, line_of_words, line_of_text, line_of_unit, room_of};
 
 use crate::units::MAX_ENTRIES;

@@ -1,8 +1,7 @@
 -- One cell more.
 use Rattle.std.proofs.Common.{◌-◌, ◌++◌, ◌∙◌, Bool, sym, ap, arith}
 use Rattle.mix_session.specs.Tally.{tally_in}
-use Rattle.mix_run.specs.Counted.{count_rows, count_rows_at}
-use Rattle.mix_run.specs.Table.{rows_text}
+use Rattle.mix_run.specs.Prelude.{count_rows, count_rows_at, rows_text}
 use Rattle.mix_run.proofs.CountedLemmas.{rows-next, rows-none}
 use Rattle.mix_run.proofs.KeepLemmas.{added-all, added-more}
 use Rattle.mix_run.proofs.print.counts.add_rows.Goals as goal

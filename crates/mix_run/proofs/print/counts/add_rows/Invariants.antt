@@ -1,7 +1,6 @@
 use Rattle.std.proofs.Common.{◌≡◌, ◌≤◌, ◌-◌, ◌++◌, true}
 use Rattle.mix_session.specs.Tally.{tally_in}
-use Rattle.mix_run.specs.Counted.{count_rows}
-use Rattle.mix_run.specs.Table.{rows_text}
+use Rattle.mix_run.specs.Prelude.{count_rows, rows_text}
 use Rattle.mix_run.proofs.print.counts.add_rows.Given as goal
 
 -- the rows so far, and those of the cells that are left, are all rows

@@ -2,8 +2,7 @@
 use Rattle.std.proofs.Common.{◌∙◌, refl}
 use Rattle.std.proofs.lemmas.Result.{err_from_is_err_and}
 use Rattle.mix_session.specs.Change.{world_at}
-use Rattle.mix_run.specs.Drawn.{DrawnIf}
-use Rattle.mix_run.specs.StepTable.{run_told}
+use Rattle.mix_run.specs.Prelude.{DrawnIf, run_told}
 use Rattle.mix_run.proofs.DrawnLemmas.{broken-as, leaves-made, told-as}
 use Rattle.mix_run.proofs.Written.{AppendsFront-all}
 use Rattle.mix_run.proofs.WritesLemmas.{begun-none}

@@ -1,8 +1,6 @@
 use Rattle.std.proofs.Common.{◌≡◌, ◌++◌, length, true}
-use Rattle.mix_formula.specs.Names.{all_named}
-use Rattle.mix_formula.specs.Rows.{all_rows}
-use Rattle.mix_run.specs.Formulas.{formula_names, formula_rows}
-use Rattle.mix_run.specs.Table.{rows_text}
+use Rattle.mix_formula.specs.Prelude.{all_named, all_rows}
+use Rattle.mix_run.specs.Prelude.{formula_names, formula_rows, rows_text}
 use Rattle.mix_run.proofs.print.formulas.add_rows.Given as goal
 
 -- the rows so far, and those of the lines that are left, are all rows

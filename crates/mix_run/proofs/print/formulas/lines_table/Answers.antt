@@ -1,6 +1,5 @@
 -- The rows are those of the lines, and the names have the values that are given and those that the counts give.
-use Rattle.mix_formula.specs.Names.{all_named}
-use Rattle.mix_formula.specs.Rows.{all_rows}
+use Rattle.mix_formula.specs.Prelude.{all_named, all_rows}
 use Rattle.mix_run.proofs.FormulaLemmas.{lines-made}
 use Rattle.mix_run.proofs.print.formulas.lines_table.Goals as goal
 

@@ -3,8 +3,7 @@ use Rattle.std.specs.List.{slice_split}
 use Rattle.std.specs.Prelude.{option_copied}
 use Rattle.mix_formula.specs.Names.{all_named}
 use Rattle.mix_views.specs.Analysis.{given_in, given_onto}
-use Rattle.mixal_text.specs.Part.{is_comma}
-use Rattle.mixal_text.specs.Words.{pieces_of}
+use Rattle.mixal_text.specs.Prelude.{is_comma, pieces_of}
 use Rattle.mix_run.proofs.print.given.given_in.Given as goal
 
 -- what is given so far, and by the pieces that are left, is all that is given

@@ -1,7 +1,6 @@
 use Rattle.std.proofs.Common.{◌≡◌, ◌≤◌, ◌+◌, ◌-◌, ◌++◌, List, ℕ}
 use Rattle.std.specs.Io.KnownBytes.{Appends}
-use Rattle.mix_run.specs.Print.{counted, printed, steps_of}
-use Rattle.mix_run.specs.PrintSteps.{HasCounts, conflicts_after}
+use Rattle.mix_run.specs.Prelude.{counted, printed, steps_of, HasCounts, conflicts_after}
 use Rattle.mix_run.proofs.print.steps.print_steps.Given as goal
 
 -- what was printed so far, and what the steps that are left print, is what all of them print; and so are the conflicts

@@ -1,8 +1,7 @@
 -- What is before the rows, they, and what is after them.
 use Rattle.std.proofs.Common.{◌∙◌, ◌++◌, [], true, refl, sym}
 use Rattle.std.proofs.lemmas.Result.{err_from_is_err_and}
-use Rattle.mix_run.specs.StepTable.{columns_of, tabled}
-use Rattle.mix_run.specs.Table.{footer_text, header_text, rows_text}
+use Rattle.mix_run.specs.Prelude.{columns_of, tabled, footer_text, header_text, rows_text}
 use Rattle.mix_run.proofs.TabledLemmas.{alone, table-parts, table-split}
 use Rattle.mix_run.proofs.Written.{Appends-nothing, Appends-same, Appends-then}
 use Rattle.mix_run.proofs.WritesLemmas.{begun-none, writes-failed, broken-then}

@@ -1,7 +1,6 @@
 use Rattle.std.proofs.Common.{◌≡◌, ◌≤◌, ◌+◌, ◌-◌, ◌++◌, List, ℕ, true}
 use Rattle.std.specs.Io.KnownBytes.{Appends}
-use Rattle.mix_run.specs.StepTable.{tabled}
-use Rattle.mix_run.specs.Table.{rows_text}
+use Rattle.mix_run.specs.Prelude.{tabled, rows_text}
 use Rattle.mix_run.proofs.print.tabled.write_steps.Given as goal
 
 -- the rows so far, and those of the steps that are left, are all rows

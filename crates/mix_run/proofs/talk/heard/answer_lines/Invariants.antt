@@ -2,8 +2,7 @@ use Rattle.std.proofs.Common.{◌≡◌, ◌++◌, List, ℕ, length}
 use Rattle.std.specs.Io.KnownBytes.{Appends}
 use Rattle.mix_lines.specs.Lines.{lines}
 use Rattle.mix_session.specs.Reply.{told_of_both}
-use Rattle.mix_run.specs.Asked.{after_lines, answers, asked, is_over, recalled_all}
-use Rattle.mix_run.specs.declared.talk.aside.Talker.TheVariants.{Program}
+use Rattle.mix_run.specs.Prelude.{after_lines, answers, asked, is_over, recalled_all, Program}
 use Rattle.mix_run.proofs.talk.heard.answer_lines.Given as goal
 
 -- what was written so far, and the replies to the lines that are left, are the replies to all

@@ -1,10 +1,6 @@
 use Rattle.std.proofs.Common.{◌≡◌, ◌++◌, List, ℕ, length, false}
 use Rattle.mix_lines.specs.Lines.{lines}
-use Rattle.mix_run.specs.Hearing.{Answered}
-use Rattle.mix_run.specs.Opening.{Files}
-use Rattle.mix_run.specs.Sources.{Knows}
-use Rattle.mix_run.specs.Stretch.{talk_of}
-use Rattle.mix_run.specs.declared.talk.aside.Talker.TheVariants.{Program}
+use Rattle.mix_run.specs.Prelude.{Answered, Files, Knows, talk_of, Program}
 use Rattle.mix_run.proofs.talk.heard.answer_text.Given as goal
 
 -- the first lines were answered

@@ -1,7 +1,6 @@
 use Rattle.std.proofs.Common.{◌≡◌, ◌+◌, ◌≤◌, ℕ, length}
 use Rattle.std.specs.List.{list_any}
-use Rattle.mix_session.specs.Altered.{count_of}
-use Rattle.mix_session.specs.Named.{is_of, IsOutside}
+use Rattle.mix_session.specs.Prelude.{count_of, is_of, IsOutside}
 use Rattle.mix_session.proofs.altered.near.named_in.Given as goal
 
 abbrev pub invariant-loop : goal.invariant-loop

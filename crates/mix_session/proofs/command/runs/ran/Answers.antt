@@ -1,7 +1,6 @@
 -- The answer is made of the steps that were done.
 use Rattle.std.proofs.Common.{refl}
-use Rattle.mix_session.specs.Command.{effect_of_run}
-use Rattle.mix_session.specs.declared.command.stops.Way.TheVariants.{New}
+use Rattle.mix_session.specs.Prelude.{effect_of_run, New}
 use Rattle.mix_session.proofs.CommandLemmas.{begun-before, effect_of_run-is}
 use Rattle.mix_session.proofs.UntilLemmas.{effect-err}
 use Rattle.mix_session.proofs.command.runs.ran.Goals as goal

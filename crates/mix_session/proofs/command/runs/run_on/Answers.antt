@@ -1,7 +1,6 @@
 -- Each change is one more from where the run began, so the ends are those of the world that the journal stands in.
 use Rattle.std.proofs.Common.{◌≡◌, ◌∙◌, ◌<◌, ◌+◌, ◌-◌, ap, sym, arith}
-use Rattle.mix_session.specs.Command.{end_of_more}
-use Rattle.mix_session.specs.Timeline.{Timeline}
+use Rattle.mix_session.specs.Prelude.{end_of_more, Timeline}
 use Rattle.mix_session.proofs.CommandLemmas.{end_at-last, end_at-limit, end_at-more, moved_once-first, none_before-next, before-run, if_err}
 use Rattle.mix_session.proofs.GoingLemmas.{going-begins, going-left, going-many, going-once}
 use Rattle.mix_session.proofs.RunLemmas.{AreMarks-length}

@@ -1,8 +1,7 @@
 -- The marks are those of the machine before the first step, and what is known of conflicts is of the changes done.
 use Rattle.std.proofs.Common.{refl}
 use Rattle.mix_session.specs.Stops.{at_breaks_or}
-use Rattle.mix_session.specs.declared.command.stops.Way.TheVariants.{New}
-use Rattle.mix_session.specs.Known.{has_conflict}
+use Rattle.mix_session.specs.Prelude.{New, has_conflict}
 use Rattle.mix_session.proofs.CommandLemmas.{Begun-none, broken-before, broken-none, if_err}
 use Rattle.mix_session.proofs.UntilLemmas.{effect-err, marks_there}
 use Rattle.mix_session.proofs.command.runs.run_until.Goals as goal

@@ -1,7 +1,6 @@
 -- The answer is made of the steps that were done, and nothing is waited for.
 use Rattle.std.proofs.Common.{[], refl}
-use Rattle.mix_session.specs.Stops.{no_stops}
-use Rattle.mix_session.specs.declared.command.stops.Way.TheVariants.{New}
+use Rattle.mix_session.specs.Prelude.{no_stops, New}
 use Rattle.mix_session.specs.Command.{effect_of_trace}
 use Rattle.mix_session.proofs.CommandLemmas.{begun-before, effect_of_run-is, if_err}
 use Rattle.mix_session.proofs.UntilLemmas.{effect-err}

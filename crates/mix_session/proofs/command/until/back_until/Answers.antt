@@ -2,8 +2,7 @@
 use Rattle.std.proofs.Common.{refl}
 use Rattle.mix_session.proofs.CommandLemmas.{broken-none, if_err}
 use Rattle.mix_session.proofs.UntilLemmas.{back_until-found, back_until-none, taken-effect, Begun-back, effect-err}
-use Rattle.mix_session.specs.Known.{has_conflict}
-use Rattle.mix_session.specs.declared.command.stops.Way.TheVariants.{Back}
+use Rattle.mix_session.specs.Prelude.{has_conflict, Back}
 use Rattle.mix_session.proofs.command.until.back_until.Goals as goal
 
 pub returns-in_err-known-clause-effect : goal.returns-in_err-known-clause-effect

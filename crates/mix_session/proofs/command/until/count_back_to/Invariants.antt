@@ -1,6 +1,5 @@
 use Rattle.std.proofs.Common.{◌≡◌, ◌+◌, ◌<◌, ℕ, length, false}
-use Rattle.mix_machine.specs.World.{WorldState}
-use Rattle.mix_machine.specs.Part.{IsPart}
+use Rattle.mix_machine.specs.Prelude.{WorldState, IsPart}
 use Rattle.mix_session.specs.Condition.{watched}
 use Rattle.mix_session.proofs.ConditionLemmas.{IsSeen, is_met_back}
 use Rattle.mix_session.proofs.command.until.count_back_to.Given as goal

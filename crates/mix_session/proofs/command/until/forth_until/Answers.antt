@@ -1,7 +1,6 @@
 -- The marks are those of the machine before the first change, and what is known of conflicts is of the changes done.
 use Rattle.std.proofs.Common.{refl}
-use Rattle.mix_session.specs.declared.command.stops.Way.TheVariants.{Again}
-use Rattle.mix_session.specs.Known.{has_conflict}
+use Rattle.mix_session.specs.Prelude.{Again, has_conflict}
 use Rattle.mix_session.proofs.CommandLemmas.{broken-before, broken-none, if_err}
 use Rattle.mix_session.proofs.UntilLemmas.{Begun-forth_none, effect-err, marks_there}
 use Rattle.mix_session.proofs.command.until.forth_until.Goals as goal

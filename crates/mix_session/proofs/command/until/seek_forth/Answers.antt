@@ -1,7 +1,6 @@
 -- Each change done again is one more from where the loop began.
 use Rattle.std.proofs.Common.{◌≡◌, ◌+◌, ◌∙◌, ap, arith, below_more, false, refl, sym}
-use Rattle.mix_session.specs.Command.{is_reached_forth}
-use Rattle.mix_session.specs.Timeline.{Timeline, forth_by}
+use Rattle.mix_session.specs.Prelude.{is_reached_forth, Timeline, forth_by}
 use Rattle.mix_session.proofs.CommandLemmas.{if_err}
 use Rattle.mix_session.proofs.TimelineLemmas.{forth_by-none}
 use Rattle.mix_session.proofs.UntilLemmas.{ahead-left, back-forth, forth_by-one, reached_forth-at, forth_until-found, forth_until-none, sought-end, before-forth, Begun-forth, effect-err, forth-length}

@@ -1,9 +1,5 @@
 use Rattle.std.proofs.Common.{◌≡◌, ◌<◌, ℕ, false}
-use Rattle.mix_session.specs.Command.{is_reached_forth}
-use Rattle.mix_session.specs.Known.{Knows}
-use Rattle.mix_session.specs.Marks.{AreMarks}
-use Rattle.mix_session.specs.Timeline.{world_of, forth_by}
-use Rattle.mix_session.specs.declared.command.stops.Way.TheVariants.{Again}
+use Rattle.mix_session.specs.Prelude.{is_reached_forth, Knows, AreMarks, world_of, forth_by, Again}
 use Rattle.mix_session.proofs.command.until.seek_forth.Given as goal
 
 abbrev pub invariant-loop-done : goal.invariant-loop-done

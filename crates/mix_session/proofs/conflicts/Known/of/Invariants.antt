@@ -1,8 +1,7 @@
 use Rattle.std.proofs.Common.{◌≡◌, ◌++◌, take, Some}
 use Rattle.undo_core.specs.Replay.{replay}
 use Rattle.mix_machine.specs.Do.{does}
-use Rattle.mix_session.specs.Conflicts.{transfers_at}
-use Rattle.mix_session.specs.Known.{IsLast}
+use Rattle.mix_session.specs.Prelude.{transfers_at, IsLast}
 use Rattle.mix_session.proofs.conflicts.Known.of.Given as goal
 
 abbrev pub invariant-loop-number : goal.invariant-loop-number

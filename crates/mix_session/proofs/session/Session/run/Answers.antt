@@ -1,12 +1,7 @@
 -- The run is that of the journal, which is the timeline of the session.
 use Rattle.std.proofs.Common.{◌∙◌, List, ap, Some, subst}
 use Rattle.mix_session.specs.BrokenOff.{watches, IsBefore}
-use Rattle.mix_session.specs.Command.{Effect, effect_of_run}
-use Rattle.mix_session.specs.Timeline.{Timeline}
-use Rattle.mix_session.specs.Known.{Knows}
-use Rattle.mix_session.specs.Session.{SessionState}
-use Rattle.mix_session.specs.Stops.{StopsState}
-use Rattle.mix_session.specs.declared.condition.Condition.{Condition}
+use Rattle.mix_session.specs.Prelude.{Effect, effect_of_run, Timeline, Knows, SessionState, StopsState, Condition}
 use Rattle.mix_session.proofs.AgainLemmas.{run-on}
 use Rattle.mix_session.proofs.CommandLemmas.{begun-broken, broken-before, broken-none, conflict-some, if_err, limit-is, watched-some}
 use Rattle.mix_session.proofs.session.Session.run.Goals as goal

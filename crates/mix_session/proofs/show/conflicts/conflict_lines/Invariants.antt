@@ -1,8 +1,7 @@
 use Rattle.std.proofs.Common.{◌≡◌, ◌+◌, ◌++◌, take, Some}
 use Rattle.undo_core.specs.Replay.{replay}
 use Rattle.mix_machine.specs.Do.{does}
-use Rattle.mix_session.specs.Conflicts.{transfers_at, conflict_line_at}
-use Rattle.mix_session.specs.Each.{texts}
+use Rattle.mix_session.specs.Prelude.{transfers_at, conflict_line_at, texts}
 use Rattle.mix_session.proofs.show.conflicts.conflict_lines.Given as goal
 
 abbrev pub invariant-loop-number : goal.invariant-loop-number

@@ -1,8 +1,7 @@
 use Rattle.std.proofs.Common.{◌≡◌, ◌≤◌, ◌+◌, length, take, reverse, Some}
 use Rattle.undo_core.specs.Replay.{replay}
 use Rattle.mix_machine.specs.Do.{does}
-use Rattle.mix_session.specs.Change.{chosen_line_at}
-use Rattle.mix_session.specs.Each.{texts}
+use Rattle.mix_session.specs.Prelude.{chosen_line_at, texts}
 use Rattle.mix_session.proofs.show.last.lines_after.Given as goal
 
 abbrev pub invariant-loop-number : goal.invariant-loop-number

@@ -1,7 +1,6 @@
 use Rattle.std.proofs.Common.{◌≡◌, false, ◌&&◌, sym, ap, ◌∙◌, refl}
 use Rattle.std.specs.Prelude.{nat_le}
-use Rattle.mixal_asm.specs.PassOne.{is_awaited}
-use Rattle.mixal_asm.specs.Chain.{emitted_of}
+use Rattle.mixal_asm.specs.Prelude.{is_awaited, emitted_of}
 use Rattle.mixal_asm.proofs.DraftLemmas.{finished_define, emitted_closed, with_name-ok}
 use Rattle.mixal_asm.proofs.draft.Draft.define.Goals as goal
 

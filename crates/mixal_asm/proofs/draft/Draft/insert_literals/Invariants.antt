@@ -1,7 +1,5 @@
 use Rattle.std.proofs.Common.{◌≡◌, ℕ, ◌≤◌, drop, List, None}
-use Rattle.mixal_asm.specs.declared.key.Key.TheVariants.{Name, Literal}
-use Rattle.mixal_asm.specs.PassOne.{value_of}
-use Rattle.mixal_asm.specs.Assembly.{literal_lines, first_uses}
+use Rattle.mixal_asm.specs.Prelude.{Name, Literal, value_of, literal_lines, first_uses}
 use Rattle.mixal_asm.proofs.draft.Draft.insert_literals.Given as goal
 
 abbrev pub invariant-loop-j : goal.invariant-loop-j

@@ -1,6 +1,5 @@
 use Rattle.std.proofs.Common.{◌≡◌, false, drop}
-use Rattle.mixal_asm.specs.PassOne.{is_taken}
-use Rattle.mixal_asm.specs.Assembly.{zero_lines, first_uses}
+use Rattle.mixal_asm.specs.Prelude.{is_taken, zero_lines, first_uses}
 use Rattle.mixal_asm.proofs.draft.Draft.insert_zeros.Given as goal
 
 abbrev pub invariant-loop-i : goal.invariant-loop-i

@@ -1,6 +1,5 @@
 use Rattle.std.proofs.Common.{ap}
-use Rattle.mixal_asm.specs.declared.fault.AsmKind.TheVariants.{Text}
-use Rattle.mixal_asm.specs.PassOne.{of_address}
+use Rattle.mixal_asm.specs.Prelude.{Text, of_address}
 use Rattle.mixal_asm.proofs.LineLemmas.{refused_as}
 use Rattle.mixal_asm.proofs.draft.Draft.read_value.Goals as goal
 

@@ -1,6 +1,5 @@
 use Rattle.std.proofs.Common.{◌+◌, drop, sym, ap, ◌∙◌, List}
-use Rattle.mixal_asm.specs.declared.key.Key.{Key}
-use Rattle.mixal_asm.specs.Assembly.{zero_lines, first_uses}
+use Rattle.mixal_asm.specs.Prelude.{Key, zero_lines, first_uses}
 use Rattle.mixal_asm.proofs.InsertLemmas.{zero_step, zero_fault, zero_end, OnOk-map2, IfFault-map}
 use Rattle.mixal_asm.proofs.draft.Draft.zero_line_at.Goals as goal
 

@@ -1,8 +1,7 @@
 use Rattle.std.proofs.Common.{ap, sym, subst, ◌∙◌}
 use Rattle.std.specs.Prelude.{List, map}
 use Rattle.mixal_asm.specs.Chain.{Link, Held, held_of, links_of, IsChained, closed_held, emitted_of}
-use Rattle.mixal_asm.specs.PassOne.{is_awaited}
-use Rattle.mixal_asm.specs.declared.words.Entry.{Entry}
+use Rattle.mixal_asm.specs.Prelude.{is_awaited, Entry}
 use Rattle.mixal_asm.proofs.ChainLemmas.{if_awaited, links_closed, held_closed}
 use Rattle.mixal_asm.proofs.words.WordList.close.Goals as goal
 

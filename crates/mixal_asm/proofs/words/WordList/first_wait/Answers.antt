@@ -1,8 +1,6 @@
 use Rattle.std.proofs.Common.{ap, ◌∙◌, map}
 use Rattle.std.specs.Prelude.{List}
-use Rattle.mixal_asm.specs.User.{first_wait}
-use Rattle.mixal_asm.specs.declared.words.Entry.{Entry}
-use Rattle.mixal_asm.specs.Chain.{Held, emitted_of, held_of}
+use Rattle.mixal_asm.specs.Prelude.{first_wait, Entry, Held, emitted_of, held_of}
 use Rattle.mixal_asm.proofs.ChainLemmas.{first_waiting}
 use Rattle.mixal_asm.proofs.words.WordList.first_wait.Goals as goal
 

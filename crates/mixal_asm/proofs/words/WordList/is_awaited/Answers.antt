@@ -1,7 +1,6 @@
 use Rattle.std.proofs.Common.{ap, ◌∙◌}
 use Rattle.std.specs.Prelude.{is_some, List}
-use Rattle.mixal_asm.specs.PassOne.{is_awaited}
-use Rattle.mixal_asm.specs.Chain.{Held, emitted_of}
+use Rattle.mixal_asm.specs.Prelude.{is_awaited, Held, emitted_of}
 use Rattle.mixal_asm.proofs.ChainLemmas.{awaited}
 use Rattle.mixal_asm.proofs.words.WordList.is_awaited.Goals as goal
 

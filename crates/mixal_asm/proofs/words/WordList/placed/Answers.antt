@@ -1,8 +1,7 @@
 use Rattle.std.proofs.Common.{◌≡◌, ℕ, List, map, subst, sym, ap, ◌∙◌}
 use Rattle.std.specs.Prelude.{IfOk}
 use Rattle.mix_word.specs.Word.{WordValue}
-use Rattle.mixal_asm.specs.Chain.{Held}
-use Rattle.mixal_asm.specs.declared.words.Entry.{Entry}
+use Rattle.mixal_asm.specs.Prelude.{Held, Entry}
 use Rattle.mixal_asm.proofs.ChainLemmas.{map_held}
 use Rattle.mixal_asm.proofs.words.WordList.placed.Goals as goal
 

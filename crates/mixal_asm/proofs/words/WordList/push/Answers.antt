@@ -1,6 +1,5 @@
 use Rattle.std.proofs.Common.{◌≡◌, length, List, [], ◌∷◌, ◌++◌, sym, subst, ap, ◌∙◌}
-use Rattle.mixal_asm.specs.declared.words.Entry.{Entry}
-use Rattle.mixal_asm.specs.Chain.{IsChained, links_of, IsUsed}
+use Rattle.mixal_asm.specs.Prelude.{Entry, IsChained, links_of, IsUsed}
 use Rattle.mixal_asm.proofs.ChainLemmas.{chained_with}
 use Rattle.mixal_asm.proofs.words.WordList.push.Goals as goal
 

@@ -1,8 +1,6 @@
 use Rattle.std.proofs.Common.{ℕ, List, length, ap, sym, ◌∙◌}
 use Rattle.std.proofs.lemmas.List.{length-map}
-use Rattle.mixal_asm.specs.declared.key.Key.{Key}
-use Rattle.mixal_asm.specs.Assembly.{first_uses}
-use Rattle.mixal_asm.specs.Chain.{Held, emitted_of}
+use Rattle.mixal_asm.specs.Prelude.{Key, first_uses, Held, emitted_of}
 use Rattle.mixal_asm.proofs.ChainLemmas.{uses_of_links}
 use Rattle.mixal_asm.proofs.words.WordList.use_count.Goals as goal
 

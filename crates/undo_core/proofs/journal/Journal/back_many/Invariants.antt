@@ -1,7 +1,5 @@
 use Rattle.std.proofs.Common.{◌≡◌, ◌-◌, ◌<◌, ◌≤◌, List, ℕ, length, reverse}
-use Rattle.undo_core.specs.Counts.{newest_place, places_below}
-use Rattle.undo_core.specs.Leads.{IsStored}
-use Rattle.undo_core.specs.Replay.{unwound}
+use Rattle.undo_core.specs.Prelude.{newest_place, places_below, IsStored, unwound}
 use Rattle.undo_core.proofs.journal.Journal.back_many.Given as goal
 
 abbrev pub invariant-loop-many : goal.invariant-loop-many

@@ -1,10 +1,6 @@
 -- A change done again and again leaves a sound journal with the same first state, and so does one taken back as it can't be noted.
 use Rattle.std.proofs.Common.{◌∙◌, ap, subst, arith, [], take, is_some, refl}
-use Rattle.undo_core.specs.Counts.{IsPart}
-use Rattle.undo_core.specs.Repeat.{goes_unless}
-use Rattle.undo_core.specs.Runs.{items_of}
-use Rattle.undo_core.specs.History.{History}
-use Rattle.undo_core.specs.Replay.{put_back}
+use Rattle.undo_core.specs.Prelude.{IsPart, goes_unless, items_of, History, put_back}
 use Rattle.undo_core.proofs.Repeating.{repeats-undone, repeats-first, done_none}
 use Rattle.undo_core.proofs.Holding.{hold_fault, hold_memory, hold_all, hold_going, same-state}
 use Rattle.undo_core.proofs.Many.{stored_times, replay_same, stored_same, view_same, dropped, unmade}

@@ -1,7 +1,6 @@
 use Rattle.std.proofs.Common.{◌≡◌, ◌*◌, ◌++◌, ap, sym, subst, length, replicate, refl, arith}
 use Rattle.mix_word.specs.Word.{zero_word}
-use Rattle.mix_machine.specs.units.UnitKind.{block_length}
-use Rattle.mix_machine.specs.units.Unit.{UnitState, IsUnit}
+use Rattle.mix_machine.specs.Prelude.{block_length, UnitState, IsUnit}
 use Rattle.mix_machine.specs.units.Keep.{is-with_blocks}
 use Rattle.mix_machine.proofs.UnitLemmas.{counted, more-view, more-length}
 use Rattle.mix_machine.proofs.units.unit.Unit.add_blocks.Goals as goal

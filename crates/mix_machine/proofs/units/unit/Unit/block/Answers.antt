@@ -1,7 +1,6 @@
 use Rattle.std.proofs.Common.{◌∙◌, ap, sym}
 use Rattle.std.specs.List.{slice_get}
-use Rattle.mix_machine.specs.units.Unit.{UnitState}
-use Rattle.mix_machine.specs.units.UnitKind.{block_length}
+use Rattle.mix_machine.specs.Prelude.{UnitState, block_length}
 use Rattle.mix_machine.proofs.BlockLemmas.{block-read, block-past}
 use Rattle.mix_machine.proofs.units.unit.Unit.block.Goals as goal
 

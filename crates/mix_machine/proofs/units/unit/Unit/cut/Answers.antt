@@ -1,6 +1,5 @@
 use Rattle.std.proofs.Common.{◌≡◌, ◌≤◌, ◌*◌, ◌∙◌, true, refl, ap, sym, subst, take}
-use Rattle.mix_machine.specs.units.UnitKind.{block_length, has_medium}
-use Rattle.mix_machine.specs.units.Unit.{UnitState, IsUnit}
+use Rattle.mix_machine.specs.Prelude.{block_length, has_medium, UnitState, IsUnit}
 use Rattle.mix_machine.specs.units.Keep.{is-cut}
 use Rattle.mix_machine.proofs.UnitLemmas.{counted, medium-cut, cut-view, cut-length}
 use Rattle.mix_machine.proofs.units.unit.Unit.cut.Goals as goal

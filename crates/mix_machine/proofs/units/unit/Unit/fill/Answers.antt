@@ -1,8 +1,6 @@
 use Rattle.std.proofs.Common.{◌≡◌, ◌%◌, ◌/◌, ◌∙◌, length, refl, ap, sym, subst, arith}
 use Rattle.std.proofs.lemmas.Nat.{div-add-mod'}
-use Rattle.mix_machine.specs.units.UnitKind.{block_length}
-use Rattle.mix_machine.specs.units.Unit.{UnitState, IsUnit, blocks_in, filled}
-use Rattle.mix_machine.specs.units.View.{unit_of_fields}
+use Rattle.mix_machine.specs.Prelude.{block_length, UnitState, IsUnit, blocks_in, filled, unit_of_fields}
 use Rattle.mix_machine.specs.units.Keep.{is-filled}
 use Rattle.mix_machine.proofs.units.unit.Unit.fill.Goals as goal
 

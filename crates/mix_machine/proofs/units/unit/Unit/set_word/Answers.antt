@@ -1,6 +1,5 @@
 use Rattle.std.proofs.Common.{◌≡◌, ◌<◌, ap}
-use Rattle.mix_machine.specs.units.UnitKind.{block_length}
-use Rattle.mix_machine.specs.units.Unit.{UnitState}
+use Rattle.mix_machine.specs.Prelude.{block_length, UnitState}
 use Rattle.mix_machine.proofs.UnitLemmas.{counted, word-set, fields-set}
 use Rattle.mix_machine.proofs.units.unit.Unit.set_word.Goals as goal
 

@@ -1,6 +1,5 @@
 use Rattle.std.proofs.Common.{◌≡◌, ◌<◌, ap, length}
-use Rattle.mix_machine.specs.units.UnitKind.{block_length}
-use Rattle.mix_machine.specs.units.Unit.{UnitState}
+use Rattle.mix_machine.specs.Prelude.{block_length, UnitState}
 use Rattle.mix_machine.proofs.UnitLemmas.{counted, word-read}
 use Rattle.mix_machine.proofs.units.unit.Unit.word.Goals as goal
 

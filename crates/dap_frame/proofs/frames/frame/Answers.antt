@@ -1,7 +1,0 @@
-use Rattle.std.proofs.Common.{append_assoc}
-use Rattle.dap_frame.specs.Frame.{frame_of}
-use Rattle.dap_frame.proofs.frames.frame.Goals as goal
-
-pub returns : goal.returns
-unfolding frame_of
-returns c = simp append_assoc c.in_ok-text.ensures.ok

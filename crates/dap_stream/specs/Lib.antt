@@ -1,9 +1,0 @@
-pub mod Asked
-pub mod Broken
-pub mod BrokenOff
-pub mod Heard
-pub mod Hearing
-pub mod Sent
-pub mod Serving
-pub mod Talk
-pub mod Talked

@@ -1,0 +1,37 @@
+-- The names of this crate that most files cite, passed on from one place. Declares nothing.
+pub use Rattle.mix_run.specs.Asked.{after_lines, answers, asked, is_over, is_quit, recalled_all}
+pub use Rattle.mix_run.specs.Bundle.{origin_of}
+pub use Rattle.mix_run.specs.Check.{Checks, Named, Reported}
+pub use Rattle.mix_run.specs.Counted.{EndTableValue, count_rows, count_rows_at, counted_run, end_table_asked}
+pub use Rattle.mix_run.specs.Debug.{debug_output, origin_given}
+pub use Rattle.mix_run.specs.Drawn.{DrawnIf, DrawnRun}
+pub use Rattle.mix_run.specs.Fault.{IsMemoryOrRead, IsMemoryOrWrite, fault_of_read}
+pub use Rattle.mix_run.specs.Formulas.{formula_names, formula_rows}
+pub use Rattle.mix_run.specs.Hearing.{Answered}
+pub use Rattle.mix_run.specs.Keep.{kept_if}
+pub use Rattle.mix_run.specs.Opening.{Asks, Files, GivesText, Missing, Opens, Saved, WhyUnsaved, asked_of, missing_of, named, noted, opened_text, refused_by}
+pub use Rattle.mix_run.specs.Output.{Ended, IsStatus, Meets, bundle_output, list_output, max_bundle_bytes, max_script_bytes, outcome_of, outcome_of_script, output, refusal_of, replies, status_of}
+pub use Rattle.mix_run.specs.Points.{with_points}
+pub use Rattle.mix_run.specs.Print.{Run, counted, printed, printed_first, run_of, steps_of, stops, written_by}
+pub use Rattle.mix_run.specs.PrintOutput.{Leaves, PrintOutcome, answered, came_to, kept_of, outcome_of_run, parts_of}
+pub use Rattle.mix_run.specs.PrintSteps.{HasCounts, conflicts_after}
+pub use Rattle.mix_run.specs.Reload.{begun}
+pub use Rattle.mix_run.specs.Sources.{Knows}
+pub use Rattle.mix_run.specs.StepTable.{columns_of, run_told, tabled}
+pub use Rattle.mix_run.specs.Stretch.{talk_of, typed_line}
+pub use Rattle.mix_run.specs.Table.{FieldValue, footer_text, header_text, row_text, rows_text, table_text}
+pub use Rattle.mix_run.specs.Talk.{is_too_long, is_whole, max_line_bytes}
+pub use Rattle.mix_run.specs.UnitsRead.{GivesUnits, deck_given}
+pub use Rattle.mix_run.specs.Writes.{Writes}
+pub use Rattle.mix_run.specs.declared.fault.ToolFault.{ToolFault}
+pub use Rattle.mix_run.specs.declared.print.PrintAnswer.{PrintAnswer}
+pub use Rattle.mix_run.specs.declared.print.PrintAnswer.TheVariants.{NoTable, Ran, Refused}
+pub use Rattle.mix_run.specs.declared.print.Printed.{Printed}
+pub use Rattle.mix_run.specs.declared.print.options.PrintOptions.{PrintOptions}
+pub use Rattle.mix_run.specs.declared.print.steps.RunEnd.{RunEnd}
+pub use Rattle.mix_run.specs.declared.print.steps.Stepped.{Stepped}
+pub use Rattle.mix_run.specs.declared.reason.Reason.{Reason}
+pub use Rattle.mix_run.specs.declared.table.TableFormat.{TableFormat}
+pub use Rattle.mix_run.specs.declared.talk.aside.Talker.{Talker}
+pub use Rattle.mix_run.specs.declared.talk.aside.Talker.TheVariants.{Program}
+pub use Rattle.mix_run.specs.declared.talk.moment.Moment.{Moment}

@@ -1,0 +1,10 @@
+pub mod Asked
+pub mod Broken
+pub mod BrokenOff
+pub mod Heard
+pub mod Hearing
+pub mod Prelude
+pub mod Sent
+pub mod Serving
+pub mod Talk
+pub mod Talked
