@@ -2,7 +2,6 @@ pub mod Fields
 pub mod Fault
 pub mod Members
 pub mod Message
-pub mod Prelude
 pub mod Reads
 pub mod Request
 pub mod Whole

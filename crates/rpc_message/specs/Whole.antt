@@ -20,10 +20,10 @@ natural_of n = if is_float n then natural_of_float (to_float n) else as_u64 n
 abbrev pub natural_in : Data → Option ℕ
 natural_in d = option_and_then natural_of (as_number d)
 
--- ---- from -2 ^ 63 to below 2 ^ 63
+-- ---- from -2 ^ 63 to below 2 ^ 63; a float of -2 ^ 63 may stand for a number below it, which JSON rounds
 
 abbrev pub is_integer : Float → Bool
-is_integer x = (eq (trunc binary64 x) x && le (minus_two_to 63) x) && lt x (two_to 63)
+is_integer x = (eq (trunc binary64 x) x && lt (minus_two_to 63) x) && lt x (two_to 63)
 
 abbrev pub integer_of_float : Float → Option ℤ
 integer_of_float x = if is_integer x then Some (float_to_signed w64 x) else None

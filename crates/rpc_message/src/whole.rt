@@ -19,7 +19,8 @@ pub fn natural(value: &Value) -> Option<u64>
     }
 }
 
-/// The whole number from -2^63 to below 2^63 that a value is.
+/// The whole number from -2^63 to below 2^63 that a value is. A float of -2^63 may stand for a
+/// number below it, so it is none.
 pub fn integer(value: &Value) -> Option<i64>
     ensures { result ≡ integer_in (view value.now) }
 {
@@ -60,5 +61,5 @@ fn is_natural(x: f64) -> bool
 fn is_integer(x: f64) -> bool
     ensures { result ≡ is_integer x }
 {
-    (x.trunc() == x) & (-9223372036854775808.0 <= x) & (x < 9223372036854775808.0)
+    (x.trunc() == x) & (-9223372036854775808.0 < x) & (x < 9223372036854775808.0)
 }
