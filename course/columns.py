@@ -101,7 +101,7 @@ def as_latex(heads, rows):
     return table if all(line.isascii() for line, _ in rows) else [ANY_SCRIPT, *table]
 
 
-ROW = re.compile(r" *\d+ +(?:(-?\d+)|(\S+)) +(?:ok|no|\?) +(\d+)  .*")
+ROW = re.compile(r" *\d+ +(?:(-?\d+)|(\S+)) +(?:ok|no|gave|\?) +(\d+)  .*")
 WHY = {"?": "has a name without a value", "unread": "cannot be read", "large": "has no value within 64 bits"}
 
 

@@ -1,7 +1,7 @@
 """Compares `show analysis` with the counts of a run and with Python's values of the formulas
 
 Each lesson that has times in square brackets is run as its facts in course/ run it. The values of N, A and so on are those that the facts work out by
-other methods. Each row has the count of its line, the value that course/counting.py finds, and `ok`; the names have the same values where only
+other methods. Each row has the count of its line, the value that course/counting.py finds, and `ok`, or `gave` if it gave a name its value; the names have the same values where only
 the constants of the source are given, if the rule finds them. With a formula altered exactly its row is `no`."""
 import re
 import sys
@@ -46,10 +46,10 @@ def names_in(rows):
 
 
 def values_of(rows, given):
-    """The values of the names: those given, and what follows from the first line with one name that has none, again and again."""
-    values = dict(given)
+    """The values of the names: those given, and what follows from the first line with one name that has none, again and again; and the lines that gave one."""
+    values, givers = dict(given), set()
     while True:
-        for _, formula, count, _ in rows:
+        for number, formula, count, _ in rows:
             unknown = set(NAME.findall(formula)) - set(values)
             if len(unknown) == 1:
                 (name,) = unknown
@@ -58,17 +58,19 @@ def values_of(rows, given):
                 value = (count - at(0)) // slope if slope else 0
                 if slope and at(value) == count:
                     values[name] = value
+                    givers.add(number)
                     break
         else:
-            return values
+            return values, givers
 
 
 def analysis(rows, source, given):
     """The lines of `show analysis`: of each row the number of its line, the formula, the count and the time."""
-    values, said, parts, left = values_of(rows, given), {"ok": 0, "no": 0, "?": 0}, {}, []
+    said, parts, left = {"ok": 0, "no": 0, "?": 0, "gave": 0}, {}, []
+    values, givers = values_of(rows, given)
     for number, formula, count, time in rows:
         value = value_of(formula, values) if set(NAME.findall(formula)) <= set(values) else "?"
-        verdict = "?" if value == "?" else "ok" if value == count else "no"
+        verdict = "?" if value == "?" else "gave" if number in givers else "ok" if value == count else "no"
         said[verdict] += 1
         yield f"{count:10}  {value:>10}  {verdict:4}{number:5}  {source[number - 1]}"
         if count and time % count == 0:
@@ -81,7 +83,8 @@ def analysis(rows, source, given):
     total = sum(one * value_of(formula, values) for formula, (one, _) in parts.items()) if known else "?"
     yield f"time {' + '.join(f'{one}({formula})' for formula, (one, _) in parts.items())} = {sum(all for _, all in parts.values())} = {total}"
     yield from (f"time of line {number} is left out" for number in left)
-    yield "lines " + ", ".join(f"{many} {verdict}" for verdict, many in said.items())
+    gave = said.pop("gave")
+    yield "lines " + ", ".join(f"{many} {verdict}" for verdict, many in said.items()) + (f", {gave} gave a name its value" if gave else "")
 
 
 def altered(source, quantities):

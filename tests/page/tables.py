@@ -32,11 +32,11 @@ def analysis(page, native, count):
     """Each formula with its value and the count; the value of a name that a count gives, and that of one that a person gives; kept."""
     begin(page)
     open_table(page, "analysis")
-    wanted = [["2", "1", "1", "1", "✓ ok"], ["3", "N", "3", "3", "✓ ok"], ["4", "N+1", "4", "3", "✗ no"], ["5", "1", "1", "1", "✓ ok"]]
+    wanted = [["2", "1", "1", "1", "✓ ok"], ["3", "N", "3", "3", "gave"], ["4", "N+1", "4", "3", "✗ no"], ["5", "1", "1", "1", "✓ ok"]]
     count.same("analysis: a row for each line", page.script(ROWS, "analysis"), wanted)
-    count.same("analysis: in green and red", page.script(KINDS, "analysis"), ["holds", "holds", "fails", "holds"])
+    count.same("analysis: in green and red", page.script(KINDS, "analysis"), ["holds", "number", "fails", "holds"])
     # u: ENT1, DEC1, J1P take 1, HLT takes 10
-    more = ["After 8 changes.", "names N=3", "time 11(1) + 1(N) + 1(N+1) = 17 = 18", "lines 3 ok, 1 no, 0 ?"]
+    more = ["After 8 changes.", "names N=3", "time 11(1) + 1(N) + 1(N+1) = 17 = 18", "lines 2 ok, 1 no, 0 ?, 1 gave a name its value"]
     count.same("analysis: names, times, lines", page.text("analysis-more").splitlines(), more)
     page.put("analysis-asked", "N=2")
     page.wait(lambda: page.script(ROWS, "analysis")[1][2] == "2")

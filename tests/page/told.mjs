@@ -19,6 +19,7 @@ const ANALYSIS = `         9           9  ok      21  LEFT    LD2  TREE,1(1:2)  
          6           8  no      31          J1P  VISIT        [N-B]
          1           ?  ?       32          HLT  0            [Q]
          1      unread  ?       33          HLT  0            [(]
+         1           1  gave    34          HLT  0            [B]
 ? line 33 column 32: the formula cannot be read
 names N=9 B=1 Q=?
 time 2(N) = 18 = 18
@@ -63,8 +64,8 @@ export function tellings(row, within) {
   row("nodes: a list goes to the right", [ring[0].x < ring[1].x && ring[1].x < ring[2].x, new Set(ring.map(({ y }) => y)).size], [true, 1]);
 
   const analysis = analysisIn(ANALYSIS);
-  row("analysis: a row for each formula", analysis.rows, [["21", "N", "9", "9", "ok"], ["31", "N-B", "8", "6", "no"], ["32", "Q", "?", "1", "?"], ["33", "(", "unread", "1", "?"]]);
-  row("analysis: what is behind them", analysis.more, ANALYSIS.split("\n").slice(4, -1).join("\n"));
+  row("analysis: a row for each formula", analysis.rows, [["21", "N", "9", "9", "ok"], ["31", "N-B", "8", "6", "no"], ["32", "Q", "?", "1", "?"], ["33", "(", "unread", "1", "?"], ["34", "B", "1", "1", "gave"]]);
+  row("analysis: what is behind them", analysis.more, ANALYSIS.split("\n").slice(5, -1).join("\n"));
   row("passages: a row for each", passagesIn(PASSAGES, true), { heads: ["state", "A", "KEY+1", "A < 0"], rows: [["3", "-5", "-0", "true"], ["10", "-1073741823", "7", "false"]], more: ".. and 17 before" });
   row("passages: none", passagesIn("  state            A\n", false), { heads: ["state", "A"], rows: [], more: "" });
   row("a table as CSV", csvOf([["a", "1,5"], ['x"', "y"]]), 'a,"1,5"\n"x""",y\n');

@@ -44,18 +44,23 @@ A value that is given counts, even if it is wrong; of two the first. It may be a
   2,3,3,N,-1,no
   5,1,2,N-1,-2,no
 
-A value that is not given is found: N is 3 by line 2. Of B-A both are missing at first, B is 2 by line 3, and then A is 0, as 2-A is 2.
-C-D stays without a value, until D is given: then C is 3.
+A value that is not given is found: N is 3 by line 2, which gave it and so checks nothing. Of B-A both are missing at first, B is 2 by line 3,
+and then A is 0, as 2-A is 2. C-D stays without a value, until D is given: then C is 3.
 
   $ mixrev run sum.mixal --formulas '' </dev/null >found; mixrev run sum.mixal --formulas N=3 </dev/null | diff - found
+  3c3
+  < 2,3,3,N,3,yes
+  ---
+  > 2,3,3,N,3,gave
+  [1]
   $ printf ' ENT1 2\nLOOP DEC1 1 [B-A]\n J1P LOOP [B]\n HLT 0 [C-D]\n END 0\n' >two.mixal
   $ mixrev run two.mixal --formulas '' </dev/null
   line,count,time,formula,value,fits
-  2,2,2,B-A,2,yes
-  3,2,2,B,2,yes
+  2,2,2,B-A,2,gave
+  3,2,2,B,2,gave
   4,1,10,C-D,,
   $ mixrev run two.mixal --formulas D=2 --json </dev/null | tail -n 2
-  {"line":4,"count":1,"time":10,"formula":"C-D","value":1,"fits":"yes"}
+  {"line":4,"count":1,"time":10,"formula":"C-D","value":1,"fits":"gave"}
   ]
 
 An exchange of the reversal of 7 entries is done 7//2 = 3 times. No value of N is found from that: it is 0//2 = 1//2 for 0 and 1.

@@ -78,14 +78,14 @@ confirmed f count TooLarge = None
 abbrev pub solution : (ℤ → Value) → ℕ → Option ℤ
 solution f count = confirmed f count (candidate f count)
 
-abbrev pub valued : List ℕ → Option ℤ → Option NameValue
-valued name None = None
-valued name (Some value) = Some (name_value name value)
+abbrev pub valued : ℕ → List ℕ → Option ℤ → Option NameValue
+valued line name None = None
+valued line name (Some value) = Some (record { name = name; value = value; line = Some line })
 
 -- what a line gives: its formula has to have one name without a value alone, since with a second one it has none at 0
 abbrev pub solved_for : List NameValue → RowValue → Option (List ℕ) → Option NameValue
 solved_for names row None = None
-solved_for names row (Some name) = valued name (solution (formula_at names (formula_of row) name) row.count)
+solved_for names row (Some name) = valued row.line name (solution (formula_at names (formula_of row) name) row.count)
 
 unfoldable pub found_by : List NameValue → RowValue → Option NameValue
 found_by names row = solved_for names row (first_without names (names_in (formula_of row)))

@@ -2,7 +2,7 @@
 
 use crate::arithmetic::{Operator, Reckoned, outcome};
 use crate::found::{all_values, from_word, is_count, natural, part_of};
-use crate::names::{Named, is_same_name, value_in};
+use crate::names::{Named, has_given, is_same_name, value_in};
 use crate::rows::{Row, formula_in};
 use crate::text::{after_opening, is_name, split_word};
 use crate::value::{Value, told, value_of};
@@ -10,8 +10,9 @@ use mix_refused::Memory;
 use std::alloc::{AllocError, Global};
 
 /// The counts of a program beside its formulas: for each row its count, the formula's value and
-/// `ok`, `no` or `?`; the names with their values, which are given or found from the counts; the
-/// time as a sum of formulas; and how many rows agree.
+/// `ok`, `no`, `gave` or `?`; the names with their values, which are given or found from the counts;
+/// the time as a sum of formulas; and how many rows agree. The row whose count gave a name its
+/// value agrees by that alone, so it says `gave`.
 pub fn analysis_text<'a>(
     alloc: Global,
     rows: &[Row<'a>],
@@ -19,10 +20,14 @@ pub fn analysis_text<'a>(
 ) -> Result<Vec<u8>, Memory> {
     let names = all_values(alloc, rows, given)?;
     let mut text = Vec::new(alloc);
-    let (mut agree, mut differ, mut open): (u64, u64, u64) = (0, 0, 0);
+    let (mut agree, mut differ, mut open, mut gave): (u64, u64, u64, u64) = (0, 0, 0, 0);
     for row in rows {
         let value = value_of(formula_in(row.text), &names);
         let verdict = match value {
+            Value::Known(_) if has_given(&names, row.line) => {
+                gave = gave.saturating_add(1);
+                "gave"
+            }
             Value::Known(_) if is_count(value, row.count) => {
                 agree = agree.saturating_add(1);
                 "ok"
@@ -47,8 +52,13 @@ pub fn analysis_text<'a>(
             text.extend_from_slice(left_out.as_bytes())?;
         }
     }
-    let verdicts = format!(in alloc; "lines {agree} ok, {differ} no, {open} ?\n")?;
+    let verdicts = format!(in alloc; "lines {agree} ok, {differ} no, {open} ?")?;
     text.extend_from_slice(verdicts.as_bytes())?;
+    if gave > 0 {
+        let givers = format!(in alloc; ", {gave} gave a name its value")?;
+        text.extend_from_slice(givers.as_bytes())?;
+    }
+    text.push(b'\n')?;
     Ok(text)
 }
 
@@ -63,16 +73,16 @@ fn add_row(
     let (count, line) = (row.count, row.line);
     let value_shown = value_text(alloc, value)?;
     let value_shown = value_shown.as_str();
-    let columns =
-        format!(in alloc; "{count:>10}  {value_shown:>10}  {verdict:<4}{line:>5}  ")?;
+    let columns = format!(in alloc; "{count:>10}  {value_shown:>10}  {verdict:<4}{line:>5}  ")?;
     text.extend_from_slice(columns.as_bytes())?;
     text.extend_from_slice(row.text)?;
     text.push(b'\n')?;
     if let Value::Unreadable(place) = value {
         let before = row.text.len().saturating_sub(after_opening(row.text).len());
         let column = before as u128 + place as u128 + 1;
-        let unread =
-            format!(in alloc; "? line {line} column {column}: the formula cannot be read\n")?;
+        let unread = format!(in alloc;
+            "? line {line} column {column}: the formula cannot be read\n"
+        )?;
         text.extend_from_slice(unread.as_bytes())?;
     }
     Ok(())

@@ -96,7 +96,8 @@ impl Equation<'_> {
         ensures { result ≡ formula_at (all_named self.now.names.now) self.now.formula.now self.now.name.now value }
     {
         let name = self.name;
-        let tried = Some(Named { name, value });
+        let line = None;
+        let tried = Some(Named { name, value, line });
         let names = self.names;
         value_with(self.formula, &Scope { names, tried })
     }
@@ -147,7 +148,10 @@ fn found_by<'a>(names: &[Named], row: &Row<'a>) -> Option<Named<'a>>
                 count: row.count,
             };
             match equation.solution() {
-                Some(value) => Some(Named { name, value }),
+                Some(value) => {
+                    let line = Some(row.line);
+                    Some(Named { name, value, line })
+                }
                 None => None,
             }
         }

@@ -28,7 +28,11 @@ fn known_as(name: &[u8], value: Value) -> Option<Named>
         return None;
     }
     match value {
-        Value::Known(value) => Some(Named { name, value }),
+        Value::Known(value) => Some(Named {
+            name,
+            value,
+            line: None,
+        }),
         Value::Unknown | Value::Unreadable(_) | Value::TooLarge => None,
     }
 }

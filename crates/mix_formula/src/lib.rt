@@ -15,7 +15,7 @@ mod value;
 pub use analysis::analysis_text;
 pub use found::all_values;
 pub use given::given_of;
-pub use names::Named;
+pub use names::{Named, has_given};
 pub use rows::Row;
 pub use text::bracket_of;
 pub use value::{Value, value_of};

@@ -1,6 +1,6 @@
 //! The names of formulas and their values.
 ghost use Rattle.std.specs.Prelude.{◌≡◌};
-ghost use Rattle.mix_formula.specs.Names.{all_named, is_same_name, names_of, value_in};
+ghost use Rattle.mix_formula.specs.Names.{all_named, has_given, is_same_name, names_of, value_in};
 
 /// A name with its value.
 #[derive(Clone, Copy)]
@@ -9,6 +9,8 @@ pub struct Named<'a> {
     pub name: &'a [u8],
     /// Its value.
     pub value: i64,
+    /// The number of the line whose count gave it that value; none if you gave it.
+    pub line: Option<usize>,
 }
 
 /// The names that have a value, and one that is tried.
@@ -38,6 +40,20 @@ pub(crate) fn value_in(names: &[Named], name: &[u8]) -> Option<i64>
         rest = after;
     }
     None
+}
+
+/// Whether the count of a line gave a name its value.
+pub fn has_given(names: &[Named], line: usize) -> bool
+    ensures { result ≡ has_given (all_named names.now) line }
+{
+    let mut rest = names;
+    while let [first, after @ ..] = rest {
+        if first.line == Some(line) {
+            return true;
+        }
+        rest = after;
+    }
+    false
 }
 
 impl Scope<'_> {

@@ -1,9 +1,10 @@
 -- What a run writes whose formulas are checked: a table with a row for each line of an instruction that has a formula in brackets, executed or not.
-use Rattle.std.specs.Prelude.{ℕ, ℤ, List, [], ◌∷◌, codes, map, Option, Some, if◌then◌else◌}
+use Rattle.std.specs.Prelude.{ℕ, ℤ, Bool, List, [], ◌∷◌, codes, map, Option, Some, if◌then◌else◌}
 use Rattle.std.specs.List.{slice_split}
 use Rattle.std.specs.Str.{is_utf8}
 use Rattle.mix_formula.specs.Formula.{value_of}
 use Rattle.mix_formula.specs.Prelude.{all_values, is_count, NameValue}
+use Rattle.mix_formula.specs.Names.{has_given}
 use Rattle.mix_formula.specs.Rows.{RowValue, formula_of}
 use Rattle.mix_formula.specs.declared.value.Value.{Value}
 use Rattle.mix_formula.specs.declared.value.Value.TheVariants as told
@@ -38,21 +39,22 @@ value_field told.Unknown = Missing
 value_field (told.Unreadable place) = Missing
 value_field told.TooLarge = Missing
 
-abbrev pub fits_text : ℤ → ℕ → List ℕ
-fits_text n count = if is_count (told.Known n) count then codes "yes" else codes "no"
+-- what a count that gave a name its value fits by that alone says nothing
+abbrev pub fits_text : Bool → ℤ → ℕ → List ℕ
+fits_text gave n count = if gave then codes "gave" else (if is_count (told.Known n) count then codes "yes" else codes "no")
 
 -- whether a value is the count; nothing without a value
-abbrev pub fits_field : Value → ℕ → FieldValue
-fits_field (told.Known n) count = Text (fits_text n count)
-fits_field told.Unknown count = Missing
-fits_field (told.Unreadable place) count = Missing
-fits_field told.TooLarge count = Missing
+abbrev pub fits_field : Bool → Value → ℕ → FieldValue
+fits_field gave (told.Known n) count = Text (fits_text gave n count)
+fits_field gave told.Unknown count = Missing
+fits_field gave (told.Unreadable place) count = Missing
+fits_field gave told.TooLarge count = Missing
 
--- the row of a line: its number, how often it was executed and how long that took, its formula, the formula's value, and whether that is the count
+-- the row of a line: its number, how often it was executed and how long that took, its formula, the formula's value, and whether that is the count or was found from it
 unfoldable pub formula_row : List NameValue → RowValue → List FieldValue
 formula_row names row =
     let value = value_of names (formula_of row) in
-    unsigned row.line ∷ unsigned row.count ∷ unsigned row.time ∷ formula_field (formula_of row) ∷ value_field value ∷ fits_field value row.count ∷ []
+    unsigned row.line ∷ unsigned row.count ∷ unsigned row.time ∷ formula_field (formula_of row) ∷ value_field value ∷ fits_field (has_given names row.line) value row.count ∷ []
 
 abbrev pub formula_rows : List NameValue → List RowValue → List (List FieldValue)
 formula_rows names rows = map (formula_row names) rows

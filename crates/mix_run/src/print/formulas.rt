@@ -7,7 +7,7 @@ ghost use Rattle.mix_run.specs.Formulas.{fits_field, fits_text, formula_field, f
 ghost use Rattle.mix_run.specs.Table.{row_text, rows_text};
 
 use crate::table::{Field, TableFormat, add_footer, add_header, add_row};
-use mix_formula::{Named, Row, Value, all_values, bracket_of, value_of};
+use mix_formula::{Named, Row, Value, all_values, bracket_of, has_given, value_of};
 use mix_refused::Memory;
 use mix_session::Session;
 use mix_views::rows_in;
@@ -111,7 +111,7 @@ fn formula_row<'a>(values: &[Named<'_>], row: &Row<'a>) -> [Field<'a>; 6]
         Field::number(row.time),
         formula_field(formula),
         value_field(value),
-        fits_field(value, row.count),
+        fits_field(has_given(values, row.line), value, row.count),
     ]
 }
 
@@ -145,20 +145,26 @@ fn value_field(value: Value) -> Field<'static>
     }
 }
 
-// Whether a value is the count.
-fn fits_field(value: Value, count: u64) -> Field<'static>
-    ensures { result ≡ fits_field value count }
+// Whether a value is the count, or was found from it.
+fn fits_field(gave: bool, value: Value, count: u64) -> Field<'static>
+    ensures { result ≡ fits_field gave value count }
 {
     match value {
-        Value::Known(number) => Field::text(fits_text(number, count)),
+        Value::Known(number) => Field::text(fits_text(gave, number, count)),
         Value::Unknown | Value::Unreadable(_) | Value::TooLarge => Field::missing(),
     }
 }
 
-fn fits_text(number: i64, count: u64) -> &'static str
-    ensures { result.now ≡ fits_text number count }
+fn fits_text(gave: bool, number: i64, count: u64) -> &'static str
+    ensures { result.now ≡ fits_text gave number count }
 {
-    if is_count(number, count) { "yes" } else { "no" }
+    if gave {
+        "gave"
+    } else if is_count(number, count) {
+        "yes"
+    } else {
+        "no"
+    }
 }
 
 fn is_count(number: i64, count: u64) -> bool
