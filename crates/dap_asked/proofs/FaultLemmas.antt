@@ -1,8 +1,11 @@
 -- A refusal is told.
 use Rattle.std.proofs.Common.{◌≡◌, ℕ, List, sym}
 use Rattle.serde_json.specs.Data.{Data}
-use Rattle.rpc_message.specs.Prelude.{Adds, refusal_message, Outbox, Request}
-use Rattle.dap_asked.specs.Prelude.{Refuses, fault_number, Fault}
+use Rattle.rpc_message.specs.declared.outbox.Outbox.{Outbox}
+use Rattle.rpc_message.specs.declared.request.Request.{Request}
+use Rattle.rpc_message.specs.Message.{Adds, refusal_message}
+use Rattle.dap_asked.specs.Fault.{Refuses, fault_number}
+use Rattle.dap_asked.specs.declared.fault.Fault.{Fault}
 
 pub refused : (r : Request) (why : Fault) (number : ℕ) (text : List ℕ) (place : Data) (old new : Outbox) → number ≡ fault_number why
     → Adds old new (λ seq. refusal_message seq r number text place) → Refuses r why old new

@@ -1,11 +1,13 @@
 -- Facts of the bytes of the memory, as a list of what stands at each number.
 use Rattle.std.proofs.Common.{◌≡◌, ℕ, List, Option, None, Some, Result, Err, codes, sym, ap, ◌∙◌}
 use Rattle.std.specs.Prelude.{ok_or}
-use Rattle.dap_asked.specs.Prelude.{byte_of_reference, Fault}
+use Rattle.dap_asked.specs.Layout.{byte_of_reference}
+use Rattle.dap_asked.specs.declared.fault.Fault.{Fault}
 use Rattle.dap_asked.specs.Memory.{integer_asked, start_asked}
 use Rattle.dap_asked.specs.declared.fault.Fault.TheVariants as fault
 use Rattle.mixal_text.specs.Steps.{◌>>=◌}
-use Rattle.rpc_message.specs.Prelude.{text_of, Request}
+use Rattle.rpc_message.specs.declared.request.Request.{Request}
+use Rattle.rpc_message.specs.Request.{text_of}
 
 -- by the reference of a request
 abbrev by_reference : Request → Option (List ℕ) → Result ℕ Fault

@@ -3,14 +3,19 @@
 use Rattle.std.specs.Prelude.{ℕ, ◌==◌, List, [], ◌∷◌, codes, Bool, true, false, Option, None, Some, option_and_then, Result, Ok, Err, ok_or, nat_lt, if◌then◌else◌}
 use Rattle.std.specs.Option.{option_map, option_or}
 use Rattle.std.specs.Str.{bytes_eq, trim}
-use Rattle.mixal_text.specs.Prelude.{w_value_of, Misread, ◌>>=◌}
-use Rattle.mix_word.specs.Prelude.{register_named, operation_named, WordValue, plus, Operation, Reg}
+use Rattle.mixal_text.specs.Prelude.{w_value_of, ◌>>=◌}
+use Rattle.mixal_text.specs.declared.misread.Misread.{Misread}
+use Rattle.mix_word.specs.Prelude.{register_named, operation_named, WordValue, plus}
+use Rattle.mix_word.specs.declared.operation.Operation.{Operation}
+use Rattle.mix_word.specs.declared.register.Reg.{Reg}
 use Rattle.mix_machine.specs.declared.old.Change.TheVariants as change
 use Rattle.mix_machine.specs.declared.part.Part.{Part}
 use Rattle.mix_machine.specs.declared.part.Part.TheVariants as part
 use Rattle.mix_session.specs.Client.{setting_at}
 use Rattle.mix_session.specs.Command.{Effect, at_once, effect_of, effect_of_run}
-use Rattle.mix_session.specs.Prelude.{no_stops, names_of, SessionState, request_in, Timeline, world_of, Refusal, BadArgument}
+use Rattle.mix_session.specs.Prelude.{no_stops, names_of, SessionState, request_in, Timeline, world_of}
+use Rattle.mix_session.specs.declared.fault.Refusal.{Refusal}
+use Rattle.mix_session.specs.declared.fault.Refusal.TheVariants.{BadArgument}
 use Rattle.mix_session.specs.declared.answer.Answer.TheVariants as answers
 use Rattle.mix_session.specs.declared.command.stops.Way.TheVariants as way
 use Rattle.mix_session.specs.declared.request.Request.TheVariants as ask

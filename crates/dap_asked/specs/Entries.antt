@@ -2,7 +2,8 @@
 use Rattle.std.specs.Prelude.{ℕ, ℤ, List, [], ◌∷◌, Option, None, Some, option_and_then}
 use Rattle.serde_json.specs.Data.{Data, Items, no_items, item}
 use Rattle.serde_json.specs.Find.{get}
-use Rattle.rpc_message.specs.Prelude.{list_of, Request}
+use Rattle.rpc_message.specs.declared.request.Request.{Request}
+use Rattle.rpc_message.specs.Request.{list_of}
 use Rattle.rpc_message.specs.Whole as whole
 
 abbrev pub data_in : Items → List Data

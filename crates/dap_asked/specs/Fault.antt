@@ -4,7 +4,9 @@ use Rattle.serde_json.specs.Data.{Data}
 use Rattle.mixal_asm.specs.Fault.{kind_number}
 use Rattle.mix_machine.specs.units.deck.Fault.{deck_number}
 use Rattle.mix_session.specs.Fault.{refusal_number}
-use Rattle.rpc_message.specs.Prelude.{Adds, refusal_message, Outbox, Request}
+use Rattle.rpc_message.specs.declared.outbox.Outbox.{Outbox}
+use Rattle.rpc_message.specs.declared.request.Request.{Request}
+use Rattle.rpc_message.specs.Message.{Adds, refusal_message}
 use Rattle.dap_asked.specs.declared.fault.Fault.{Fault}
 use Rattle.dap_asked.specs.declared.fault.Fault.TheVariants as fault
 

@@ -3,7 +3,9 @@ use Rattle.std.specs.Prelude.{ℕ, ℤ, pos, negsuc, ◌+ℤ◌, Bool, ◌/◌, 
 use Rattle.std.specs.Char.{is_digit}
 use Rattle.std.specs.List.{list_all, starts_with}
 use Rattle.std.specs.Str.Parse.{digits_value, without_leading_plus}
-use Rattle.mix_word.specs.Prelude.{WordValue, byte_of, word_of_bytes, Sign, Plus, Minus}
+use Rattle.mix_word.specs.declared.word.Sign.{Sign}
+use Rattle.mix_word.specs.declared.word.Sign.TheVariants.{Plus, Minus}
+use Rattle.mix_word.specs.Word.{WordValue, byte_of, word_of_bytes}
 use Rattle.mix_machine.specs.World.{WorldState, cell_of}
 
 -- the bytes of a cell: its sign, 0 for + and 1 for -, and its five bytes

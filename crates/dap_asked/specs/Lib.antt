@@ -7,7 +7,6 @@ pub mod Kind
 pub mod Layout
 pub mod Look
 pub mod Memory
-pub mod Prelude
 pub mod Scope
 pub mod Value
 pub mod Watch

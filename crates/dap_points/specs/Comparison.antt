@@ -1,9 +1,11 @@
 -- A condition of a breakpoint: a value, and how it is to compare with another one.
 use Rattle.std.specs.Prelude.{ℕ, ◌==◌, ℤ, pos, neg_ℤ, List, length, Bool, true, false, Option, None, Some, if◌then◌else◌}
 use Rattle.std.specs.List.{position_or_len, before_first, after_first}
-use Rattle.mix_word.specs.Prelude.{order_of, number_of, plus, Cmp}
+use Rattle.mix_word.specs.Prelude.{order_of, number_of, plus}
+use Rattle.mix_word.specs.declared.word.Cmp.{Cmp}
 use Rattle.mix_word.specs.declared.word.Cmp.TheVariants.{Less, Equal, Greater}
-use Rattle.mix_machine.specs.Prelude.{WorldState, register_of, cell_of, Part}
+use Rattle.mix_machine.specs.declared.part.Part.{Part}
+use Rattle.mix_machine.specs.World.{WorldState, register_of, cell_of}
 use Rattle.mix_machine.specs.declared.part.Part.TheVariants as part
 use Rattle.mix_session.specs.Session.{SessionState}
 use Rattle.dap_asked.specs.Deed.{worth_of}

@@ -8,9 +8,12 @@ use Rattle.std.specs.Str.{bytes_eq}
 use Rattle.serde_json.specs.Data.{Data}
 use Rattle.serde_json.specs.Find.{as_str}
 use Rattle.mix_machine.specs.World.{WorldState}
-use Rattle.mix_session.specs.Prelude.{SessionState, StopsState, is_awaited, Condition, Alters, Conflicts}
+use Rattle.mix_session.specs.Prelude.{SessionState, StopsState, is_awaited}
+use Rattle.mix_session.specs.declared.condition.Condition.{Condition}
+use Rattle.mix_session.specs.declared.condition.Condition.TheVariants.{Alters, Conflicts}
 use Rattle.rpc_message.specs.Members.{text_in, number_in}
-use Rattle.rpc_message.specs.Prelude.{argument_of, Request}
+use Rattle.rpc_message.specs.declared.request.Request.{Request}
+use Rattle.rpc_message.specs.Request.{argument_of}
 use Rattle.dap_points.specs.Breakpoint.{breakpoint_at, stops, with_arrival}
 use Rattle.dap_asked.specs.Entries.{entries_of, integer_in}
 use Rattle.dap_asked.specs.Layout.{cell_of_reference}

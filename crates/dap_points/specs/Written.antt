@@ -10,9 +10,11 @@ use Rattle.mix_machine.specs.declared.old.Change.TheVariants as change
 use Rattle.mix_refused.specs.declared.refused.Refused.{Refused}
 use Rattle.mix_refused.specs.declared.refused.Refused.TheVariants as refused
 use Rattle.mix_session.specs.Prelude.{SessionState, Timeline, with_change, world_of}
-use Rattle.rpc_message.specs.Prelude.{text_of, Request}
+use Rattle.rpc_message.specs.declared.request.Request.{Request}
+use Rattle.rpc_message.specs.Request.{text_of}
 use Rattle.dap_asked.specs.Layout.{memory_byte, word_of}
-use Rattle.dap_asked.specs.Prelude.{start_asked, Fault}
+use Rattle.dap_asked.specs.declared.fault.Fault.{Fault}
+use Rattle.dap_asked.specs.Memory.{start_asked}
 use Rattle.dap_asked.specs.declared.fault.Fault.TheVariants as fault
 use Rattle.mixal_text.specs.Steps.{◌>>=◌}
 

@@ -1,7 +1,8 @@
 -- What is said of some diagnostics, one more of them at a time.
 use Rattle.std.proofs.Common.{◌≡◌, ◌<◌, ◌∙◌, ℕ, Bool, true, false, List, [], ◌∷◌, ◌++◌, refl, sym, ap, arith, length, subst, append_assoc}
 use Rattle.std.proofs.lemmas.List.{append-nil}
-use Rattle.mixal_asm.specs.Prelude.{Diagnostic, diagnostics_of}
+use Rattle.mixal_asm.specs.declared.diagnostic.Diagnostic.{Diagnostic}
+use Rattle.mixal_asm.specs.Diagnose.{diagnostics_of}
 use Rattle.json.specs.Print.{print}
 use Rattle.mix_check.specs.Report.{Report, Says, SaysAll, place_of}
 

@@ -3,7 +3,8 @@ use Rattle.std.specs.Prelude.{◌≡◌, ◌==◌, ℕ, Bool, true, false, not, 
 use Rattle.std.specs.List.{list_any, starts_with}
 use Rattle.json.specs.Print.{print}
 use Rattle.json.specs.Token.{Token}
-use Rattle.mixal_asm.specs.Prelude.{diagnostics_of, is_warning, Diagnostic}
+use Rattle.mixal_asm.specs.declared.diagnostic.Diagnostic.{Diagnostic}
+use Rattle.mixal_asm.specs.Diagnose.{diagnostics_of, is_warning}
 
 -- where a diagnostic is: `FILE:LINE:`
 unfoldable pub place_of : List ℕ → ℕ → List ℕ

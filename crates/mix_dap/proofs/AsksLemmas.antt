@@ -1,9 +1,11 @@
 -- A launch that was left waits for its answer, and nothing else does.
 use Rattle.std.proofs.Common.{◌≡◌, ℕ, Result, Ok, Err, List, refl}
-use Rattle.rpc_message.specs.Prelude.{Outbox, Request}
+use Rattle.rpc_message.specs.declared.outbox.Outbox.{Outbox}
+use Rattle.rpc_message.specs.declared.request.Request.{Request}
 use Rattle.mix_dap.specs.Before.{AskedShows, IsLaunch, ShowsBefore, answer_before, events_before, later_before}
 use Rattle.mix_dap.specs.Texts.{AreTexts, Known}
-use Rattle.dap_asked.specs.Prelude.{Fault, Kind}
+use Rattle.dap_asked.specs.declared.fault.Fault.{Fault}
+use Rattle.dap_asked.specs.declared.kind.Kind.{Kind}
 use Rattle.dap_asked.specs.declared.kind.Kind.TheVariants as kind
 use Rattle.mix_dap.specs.declared.launch.Texts.{Texts}
 use Rattle.mix_dap.specs.declared.waiting.Asked.TheVariants as asked

@@ -2,7 +2,8 @@
 use Rattle.std.proofs.Common.{◌≡◌, inl, inr, ℕ, true, false, Option, None, Some, Result, Ok, Err, List, [], refl, sym, ap, subst, ◌∙◌}
 use Rattle.std.specs.Io.KnownBytes.{prepend_known}
 use Rattle.rpc_frame.specs.Frame.{first_frame, partial}
-use Rattle.rpc_stream.specs.Prelude.{BrokenOff, Phase, going, over, Talks, Broken}
+use Rattle.rpc_stream.specs.Prelude.{BrokenOff, Phase, going, over, Talks}
+use Rattle.rpc_stream.specs.declared.broken.Broken.{Broken}
 use Rattle.rpc_stream.specs.Talked.{Ended, IsEnd, Stuck, TalkedAs, state_in}
 use Rattle.rpc_stream.specs.declared.broken.Broken.TheVariants as broken
 use Rattle.rpc_stream.proofs.Talking.{talks-none}

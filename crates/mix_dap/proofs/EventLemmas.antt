@@ -4,9 +4,12 @@ use Rattle.std.proofs.lemmas.List.{append_assoc, append-nil}
 use Rattle.std.specs.Prelude.{map, codes}
 use Rattle.serde_json.specs.Data.{Data}
 use Rattle.mix_machine.specs.Prelude.{WorldState, RowState}
-use Rattle.rpc_message.specs.Prelude.{next_seq, waits, event_message, output_message, reply_message, Adds, Outbox, Request}
+use Rattle.rpc_message.specs.declared.outbox.Outbox.{Outbox}
+use Rattle.rpc_message.specs.declared.request.Request.{Request}
+use Rattle.rpc_message.specs.Message.{next_seq, waits, event_message, output_message, reply_message, Adds}
 use Rattle.mix_dap.specs.Events.{Event, AddsAnswer, AddsEvents, Sends, all_areas, initialized, event_messages, last_seq, out_of_date}
-use Rattle.dap_asked.specs.Prelude.{Refuses, Fault}
+use Rattle.dap_asked.specs.declared.fault.Fault.{Fault}
+use Rattle.dap_asked.specs.Fault.{Refuses}
 use Rattle.mix_dap.specs.Prelude.{output, outputs, row_output, launched_of, Texts}
 use Rattle.mix_dap.specs.Answer.{LaunchTells, TellsReport, report_told}
 use Rattle.mix_dap.specs.Replies.{AddsEither, AddsRefusal, AddsReply, answer_message}

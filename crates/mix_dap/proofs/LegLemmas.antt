@@ -1,7 +1,11 @@
 -- The legs of a run: one more, and how much is left for it.
 use Rattle.std.proofs.Common.{◌≡◌, ℕ, zero, suc, ◌-◌, ◌<◌, ◌==◌, Bool, true, false, Option, None, Some, Result, Ok, Err, refl, ap, sym, subst, ◌∙◌, arith, length, if◌then◌else◌, unwrap_or}
-use Rattle.mix_machine.specs.Prelude.{WorldState, does, MixFault, Step}
-use Rattle.mix_session.specs.Prelude.{effect_of_run, count_of_run, end_at, end_of_more, fault_end, StopsState, Timeline, world_of, moved, Ran, End}
+use Rattle.mix_machine.specs.Prelude.{WorldState, does}
+use Rattle.mix_machine.specs.declared.fault.MixFault.{MixFault}
+use Rattle.mix_machine.specs.declared.old.Change.TheVariants.{Step}
+use Rattle.mix_session.specs.Prelude.{effect_of_run, count_of_run, end_at, end_of_more, fault_end, StopsState, Timeline, world_of, moved}
+use Rattle.mix_session.specs.declared.answer.Answer.TheVariants.{Ran}
+use Rattle.mix_session.specs.declared.reply.End.{End}
 use Rattle.mix_session.specs.declared.command.stops.Way as session
 use Rattle.mix_session.specs.declared.command.stops.Way.TheVariants as ways
 use Rattle.mix_session.specs.declared.reply.End.TheVariants as ends

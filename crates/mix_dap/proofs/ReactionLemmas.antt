@@ -4,9 +4,19 @@ use Rattle.std.specs.Prelude.{IfOk, OnOk, codes, if◌then◌else◌}
 use Rattle.serde_json.specs.Data.{Data}
 use Rattle.mix_word.specs.Word.{WordValue}
 use Rattle.mix_refused.specs.declared.refused.Refused.{Refused}
-use Rattle.mix_session.specs.Prelude.{Effect, after, SessionState, Timeline, world_of, Answer, End}
-use Rattle.rpc_message.specs.Prelude.{Adds, reply_message, text_of, Outbox, Request}
-use Rattle.dap_asked.specs.Prelude.{deed_of, effect_of_deed, is_line, line_deed, Refuses, Deed, Fault, Act, Kind}
+use Rattle.mix_session.specs.Prelude.{Effect, after, SessionState, Timeline, world_of}
+use Rattle.mix_session.specs.declared.answer.Answer.{Answer}
+use Rattle.mix_session.specs.declared.reply.End.{End}
+use Rattle.rpc_message.specs.Message.{Adds, reply_message}
+use Rattle.rpc_message.specs.Request.{text_of}
+use Rattle.rpc_message.specs.declared.outbox.Outbox.{Outbox}
+use Rattle.rpc_message.specs.declared.request.Request.{Request}
+use Rattle.dap_asked.specs.Deed.{deed_of, effect_of_deed, is_line, line_deed}
+use Rattle.dap_asked.specs.Fault.{Refuses}
+use Rattle.dap_asked.specs.declared.deed.Deed.{Deed}
+use Rattle.dap_asked.specs.declared.fault.Fault.{Fault}
+use Rattle.dap_asked.specs.declared.kind.Act.{Act}
+use Rattle.dap_asked.specs.declared.kind.Kind.{Kind}
 use Rattle.mix_dap.specs.Prelude.{is_said, line_meant, end_told, all_told, outputs, fault_at, out_of_memory}
 use Rattle.mix_dap.specs.Events.{AddsAnswer, AddsEvents, Event, invalidated, stopped}
 use Rattle.mix_dap.specs.Leaves.{refusal_in}

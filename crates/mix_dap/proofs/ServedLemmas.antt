@@ -1,6 +1,8 @@
 -- How a launch is answered.
 use Rattle.std.proofs.Common.{◌≡◌, ℕ, List, [], refl, ap, ◌∙◌}
-use Rattle.rpc_message.specs.Prelude.{waits, Outbox, Request}
+use Rattle.rpc_message.specs.declared.outbox.Outbox.{Outbox}
+use Rattle.rpc_message.specs.declared.request.Request.{Request}
+use Rattle.rpc_message.specs.Message.{waits}
 use Rattle.dap_asked.specs.Kind.{kind_before}
 use Rattle.mix_dap.specs.Prelude.{LaunchTells, AskedShows, Known, Texts}
 use Rattle.mix_dap.specs.Dialogue.{Opens}

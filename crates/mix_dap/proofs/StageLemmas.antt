@@ -1,8 +1,10 @@
 -- What serves a dialogue serves it as its stage says.
 use Rattle.std.proofs.Common.{◌≡◌, inl, inr, ℕ, Ok, Err, List, refl, sym, ap, subst, ◌∙◌}
 use Rattle.serde_json.specs.Data.{Data}
-use Rattle.rpc_message.specs.Prelude.{next_seq, Request}
-use Rattle.rpc_stream.specs.Prelude.{Frame, Phase, going, over, Steps, Takes, Turn}
+use Rattle.rpc_message.specs.declared.request.Request.{Request}
+use Rattle.rpc_message.specs.Message.{next_seq}
+use Rattle.rpc_stream.specs.Prelude.{Frame, Phase, going, over, Steps, Takes}
+use Rattle.rpc_stream.specs.declared.serves.Turn.{Turn}
 use Rattle.rpc_stream.specs.BrokenOff.{Begins}
 use Rattle.rpc_stream.specs.declared.serves.Turn.TheVariants as turn
 use Rattle.mix_dap.specs.Dialogue.{BeforeSteps, ExchangeBegins, Exchanges, Reached, Stage, StageSteps, debugs, done, waiting}

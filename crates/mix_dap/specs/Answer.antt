@@ -2,7 +2,8 @@
 use Rattle.std.specs.Prelude.{◌≡◌, ℕ, List, [], ◌∷◌, ◌++◌, codes, string_bytes, None, Result, Ok, Err}
 use Rattle.std.specs.Str.Lossy.{utf8_lossy}
 use Rattle.mix_session.specs.Session.{SessionState}
-use Rattle.rpc_message.specs.Prelude.{Outbox, Request}
+use Rattle.rpc_message.specs.declared.outbox.Outbox.{Outbox}
+use Rattle.rpc_message.specs.declared.request.Request.{Request}
 use Rattle.mix_dap.specs.Events.{AddsEvents, Event, initialized}
 use Rattle.mix_dap.specs.Launched.{launched_of}
 use Rattle.mix_dap.specs.Output.{output}

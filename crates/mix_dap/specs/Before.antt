@@ -1,11 +1,13 @@
 -- How a request is answered before a program is launched.
 use Rattle.std.specs.Prelude.{◌≡◌, ℕ, List, [], ◌∷◌, Option, None, Some, Result, Ok, Err}
-use Rattle.rpc_message.specs.Prelude.{Outbox, Request}
+use Rattle.rpc_message.specs.declared.outbox.Outbox.{Outbox}
+use Rattle.rpc_message.specs.declared.request.Request.{Request}
 use Rattle.mix_dap.specs.Capabilities.{client_of}
 use Rattle.mix_dap.specs.Events.{Event, terminated}
 use Rattle.mix_dap.specs.Replies.{AddsRefusal, AnswersAs, Outcome, denied, looked, served}
 use Rattle.mix_dap.specs.Texts.{Known, AreTexts, RefusesTexts}
-use Rattle.dap_asked.specs.Prelude.{Fault, Kind}
+use Rattle.dap_asked.specs.declared.fault.Fault.{Fault}
+use Rattle.dap_asked.specs.declared.kind.Kind.{Kind}
 use Rattle.dap_asked.specs.declared.fault.Fault.TheVariants as fault
 use Rattle.mix_dap.specs.declared.capabilities.Client.{Client}
 use Rattle.dap_asked.specs.declared.kind.Kind.TheVariants as kind

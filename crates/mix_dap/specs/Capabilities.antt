@@ -1,7 +1,8 @@
 -- What the adapter can do, and what the client says of itself.
 use Rattle.std.specs.Prelude.{ℕ, Bool, true, false, List, codes, Option, None, Some, option_and_then}
 use Rattle.serde_json.specs.Find.{as_bool}
-use Rattle.rpc_message.specs.Prelude.{argument_of, flag_of, Request}
+use Rattle.rpc_message.specs.declared.request.Request.{Request}
+use Rattle.rpc_message.specs.Request.{argument_of, flag_of}
 use Rattle.mix_dap.specs.declared.capabilities.Client.{Client}
 
 -- what an argument says, where it is true or false

@@ -6,8 +6,12 @@ use Rattle.mix_person.specs.Person.{kind_of, person_line}
 use Rattle.mix_person.specs.declared.person.Line.{Line}
 use Rattle.mix_person.specs.declared.person.Line.TheVariants as line_kind
 use Rattle.mix_session.specs.Prelude.{names_of, SessionState, request_in}
-use Rattle.rpc_message.specs.Prelude.{text_of, Request}
-use Rattle.dap_asked.specs.Prelude.{deed_of, is_line, line_deed, Deed, Fault, Act}
+use Rattle.rpc_message.specs.declared.request.Request.{Request}
+use Rattle.rpc_message.specs.Request.{text_of}
+use Rattle.dap_asked.specs.declared.deed.Deed.{Deed}
+use Rattle.dap_asked.specs.declared.fault.Fault.{Fault}
+use Rattle.dap_asked.specs.declared.kind.Act.{Act}
+use Rattle.dap_asked.specs.Deed.{deed_of, is_line, line_deed}
 use Rattle.dap_asked.specs.declared.deed.Deed.TheVariants as deed
 use Rattle.dap_asked.specs.declared.fault.Fault.TheVariants as fault
 

@@ -3,10 +3,12 @@ use Rattle.std.specs.Prelude.{◌≡◌, ◌⊎◌, ◌≤◌, ◌-◌, ◌^◌,
 use Rattle.std.specs.Io.KnownBytes.{Appends, prepend_known}
 use Rattle.serde_json.specs.Data.{Data}
 use Rattle.dap_asked.specs.Kind.{kind_before}
-use Rattle.rpc_message.specs.Prelude.{Request, next_seq}
+use Rattle.rpc_message.specs.declared.request.Request.{Request}
+use Rattle.rpc_message.specs.Message.{next_seq}
 use Rattle.rpc_stream.specs.Asked.{Frame, IsRequest}
 use Rattle.rpc_frame.specs.Frame.{first_frame, partial}
-use Rattle.rpc_stream.specs.Prelude.{broken_text, SendsFront, Hears, HearsAs, Talks, Broken}
+use Rattle.rpc_stream.specs.Prelude.{broken_text, SendsFront, Hears, HearsAs, Talks}
+use Rattle.rpc_stream.specs.declared.broken.Broken.{Broken}
 use Rattle.rpc_stream.specs.Serving.{unclear_told, going, over, Steps}
 use Rattle.rpc_stream.specs.declared.broken.Broken.TheVariants as broken
 use Rattle.rpc_stream.specs.declared.hear.Heard.TheVariants as heard

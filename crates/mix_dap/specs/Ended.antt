@@ -1,6 +1,7 @@
 -- What is told where a run has ended: that the program stops; or, if it is not debugged, that it has ended.
 use Rattle.std.specs.Prelude.{List, [], ◌∷◌, ◌++◌, codes, Option, None, Some}
-use Rattle.mix_machine.specs.Prelude.{fault_line, MixFault}
+use Rattle.mix_machine.specs.declared.fault.MixFault.{MixFault}
+use Rattle.mix_machine.specs.Fault.{fault_line}
 use Rattle.mix_session.specs.declared.reply.End.{End}
 use Rattle.mix_session.specs.declared.reply.End.TheVariants as ends
 use Rattle.mix_dap.specs.Events.{Event, stopped, terminated}

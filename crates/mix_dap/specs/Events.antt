@@ -2,7 +2,8 @@
 use Rattle.std.specs.Prelude.{◌≡◌, ℕ, List, [], ◌∷◌, ◌++◌, codes, Bool, true, false}
 use Rattle.serde_json.specs.Data.{Data, null, string, array, object, no_members, put}
 use Rattle.serde_json.specs.View.{items_of}
-use Rattle.rpc_message.specs.Prelude.{next_seq, waits, event_message, Outbox}
+use Rattle.rpc_message.specs.declared.outbox.Outbox.{Outbox}
+use Rattle.rpc_message.specs.Message.{next_seq, waits, event_message}
 use Rattle.mix_dap.specs.Stopped.{Why, only, stopped_body}
 use Rattle.mix_dap.specs.declared.capabilities.Client.{Client}
 use Rattle.mix_dap.specs.declared.launch.Opening.{Opening}

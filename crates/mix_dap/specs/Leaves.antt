@@ -3,8 +3,12 @@ use Rattle.std.specs.Prelude.{◌≡◌, ◌⊎◌, Option, None, Some, Result, 
 use Rattle.std.specs.Option.{option_map}
 use Rattle.mix_refused.specs.declared.refused.Refused.{Refused}
 use Rattle.mix_refused.specs.declared.refused.Refused.TheVariants as refused
-use Rattle.mix_session.specs.Prelude.{refusal_of, Effect, after, Begun, Timeline, Answer, Refusal}
-use Rattle.dap_asked.specs.Prelude.{effect_of_deed, Deed, Fault}
+use Rattle.mix_session.specs.Prelude.{refusal_of, Effect, after, Begun, Timeline}
+use Rattle.mix_session.specs.declared.answer.Answer.{Answer}
+use Rattle.mix_session.specs.declared.fault.Refusal.{Refusal}
+use Rattle.dap_asked.specs.declared.deed.Deed.{Deed}
+use Rattle.dap_asked.specs.declared.fault.Fault.{Fault}
+use Rattle.dap_asked.specs.Deed.{effect_of_deed}
 use Rattle.dap_asked.specs.declared.fault.Fault.TheVariants as fault
 
 -- what refuses an effect, if the session does

@@ -2,13 +2,19 @@
 use Rattle.std.specs.Prelude.{◌^◌, ℕ, List, [], ◌∷◌, ◌++◌, codes, string_bytes, Option, None, Some, Result, Ok, Err, nat_lt, if◌then◌else◌, Bool, true, false}
 use Rattle.mix_word.specs.Word.{WordValue}
 use Rattle.mix_word.specs.declared.register.Reg.TheVariants as reg
-use Rattle.mix_machine.specs.Prelude.{register_of, MixFault}
-use Rattle.mix_session.specs.Prelude.{Effect, after, effect_of, Timeline, world_of, Answer}
+use Rattle.mix_machine.specs.declared.fault.MixFault.{MixFault}
+use Rattle.mix_machine.specs.World.{register_of}
+use Rattle.mix_session.specs.Prelude.{Effect, after, effect_of, Timeline, world_of}
+use Rattle.mix_session.specs.declared.answer.Answer.{Answer}
 use Rattle.mix_session.specs.declared.request.Request.TheVariants as ask
 use Rattle.rpc_message.specs.Request.{text_of as text_in}
 use Rattle.rpc_message.specs.declared.request.Request.{Request}
 use Rattle.mix_dap.specs.Console.{is_said, line_meant}
-use Rattle.dap_asked.specs.Prelude.{deed_of, effect_of_deed, is_line, line_deed, Deed, Fault, Act, Kind}
+use Rattle.dap_asked.specs.declared.deed.Deed.{Deed}
+use Rattle.dap_asked.specs.declared.fault.Fault.{Fault}
+use Rattle.dap_asked.specs.declared.kind.Act.{Act}
+use Rattle.dap_asked.specs.declared.kind.Kind.{Kind}
+use Rattle.dap_asked.specs.Deed.{deed_of, effect_of_deed, is_line, line_deed}
 use Rattle.mix_dap.specs.Events.{Event, beginning, invalidated, stopped, terminated}
 use Rattle.mix_dap.specs.Leaves.{refusal_in}
 use Rattle.mix_dap.specs.Output.{all_told, outputs}

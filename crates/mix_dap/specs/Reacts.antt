@@ -3,12 +3,16 @@ use Rattle.std.specs.Prelude.{◌≡◌, ◌⊎◌, ◌++◌, Option, Result, Ok
 use Rattle.serde_json.specs.Data.{Data}
 use Rattle.mix_refused.specs.declared.refused.Refused.{Refused}
 use Rattle.mix_refused.specs.declared.refused.Refused.TheVariants as refused
-use Rattle.mix_session.specs.Prelude.{effect_of, Begun, SessionState, Timeline, world_of, End}
+use Rattle.mix_session.specs.Prelude.{effect_of, Begun, SessionState, Timeline, world_of}
+use Rattle.mix_session.specs.declared.reply.End.{End}
 use Rattle.mix_session.specs.declared.request.Request.TheVariants as ask
-use Rattle.rpc_message.specs.Prelude.{Outbox, Request}
+use Rattle.rpc_message.specs.declared.outbox.Outbox.{Outbox}
+use Rattle.rpc_message.specs.declared.request.Request.{Request}
 use Rattle.mix_dap.specs.Console.{deed_asked}
 use Rattle.mix_dap.specs.Events.{AddsAnswer, AddsEvents}
-use Rattle.dap_asked.specs.Prelude.{kind_asked, Fault, Kind}
+use Rattle.dap_asked.specs.declared.fault.Fault.{Fault}
+use Rattle.dap_asked.specs.declared.kind.Kind.{Kind}
+use Rattle.dap_asked.specs.Kind.{kind_asked}
 use Rattle.mix_dap.specs.Leaves.{Leaves}
 use Rattle.mix_dap.specs.Ended.{end_told}
 use Rattle.mix_dap.specs.Output.{all_told, outputs}

@@ -1,8 +1,11 @@
 -- How a request is answered: with one response, whose body is not said here, or with a refusal.
 use Rattle.std.specs.Prelude.{◌≡◌, ℕ, List, Result, Ok, Err}
 use Rattle.serde_json.specs.Data.{Data}
-use Rattle.rpc_message.specs.Prelude.{reply_message, refusal_message, Outbox, Request}
-use Rattle.dap_asked.specs.Prelude.{fault_number, Fault}
+use Rattle.rpc_message.specs.declared.outbox.Outbox.{Outbox}
+use Rattle.rpc_message.specs.declared.request.Request.{Request}
+use Rattle.rpc_message.specs.Message.{reply_message, refusal_message}
+use Rattle.dap_asked.specs.declared.fault.Fault.{Fault}
+use Rattle.dap_asked.specs.Fault.{fault_number}
 use Rattle.mix_dap.specs.Events.{Event, AddsAnswer}
 
 -- why a request is refused, and in which words, which are not said here

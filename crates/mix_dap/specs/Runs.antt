@@ -1,8 +1,12 @@
 -- Runs of a client: what stops them, and what one leaves. Where a run comes to breakpoints that don't stop it, it goes on past them, in a leg
 -- of its own.
 use Rattle.std.specs.Prelude.{◌≡◌, ◌-◌, ℕ, zero, suc, List, length, Bool, true, false, Option, None, Some, if◌then◌else◌}
-use Rattle.mix_machine.specs.Prelude.{WorldState, MixFault, Conflict}
-use Rattle.mix_session.specs.Prelude.{conflict_after, Effect, after, effect_of_run, Begun, Timeline, world_of, Answer, End}
+use Rattle.mix_machine.specs.declared.fault.MixFault.{MixFault}
+use Rattle.mix_machine.specs.declared.transfers.Conflict.{Conflict}
+use Rattle.mix_machine.specs.World.{WorldState}
+use Rattle.mix_session.specs.Prelude.{conflict_after, Effect, after, effect_of_run, Begun, Timeline, world_of}
+use Rattle.mix_session.specs.declared.answer.Answer.{Answer}
+use Rattle.mix_session.specs.declared.reply.End.{End}
 use Rattle.mix_session.specs.declared.answer.Answer.TheVariants as answers
 use Rattle.mix_session.specs.declared.command.stops.Way.TheVariants as session
 use Rattle.mix_session.specs.declared.reply.End.TheVariants as ends

@@ -1,8 +1,12 @@
 -- The event that tells that the program stopped, and why.
 use Rattle.std.specs.Prelude.{ℕ, List, codes, true, Option, None, Some}
 use Rattle.serde_json.specs.Data.{Data, Members, boolean, string, number, unsigned, object, no_members, put}
-use Rattle.mix_machine.specs.Prelude.{fault_line, MixFault, Conflict}
-use Rattle.mix_session.specs.Prelude.{conflict_text, Answer, End}
+use Rattle.mix_machine.specs.declared.fault.MixFault.{MixFault}
+use Rattle.mix_machine.specs.declared.transfers.Conflict.{Conflict}
+use Rattle.mix_machine.specs.Fault.{fault_line}
+use Rattle.mix_session.specs.declared.answer.Answer.{Answer}
+use Rattle.mix_session.specs.declared.reply.End.{End}
+use Rattle.mix_session.specs.Conflicts.{conflict_text}
 use Rattle.mix_session.specs.declared.answer.Answer.TheVariants as answers
 use Rattle.mix_session.specs.declared.reply.End.TheVariants as ends
 

@@ -6,7 +6,8 @@ use Rattle.mix_refused.specs.declared.refused.Refused.{Refused}
 use Rattle.mix_refused.specs.declared.refused.Refused.TheVariants as refused
 use Rattle.mix_machine.specs.units.deck.Deck.{max_deck_bytes}
 use Rattle.mix_files.specs.Bundle.{max_bundle_bytes}
-use Rattle.rpc_message.specs.Prelude.{text_of, flag_of, Request}
+use Rattle.rpc_message.specs.declared.request.Request.{Request}
+use Rattle.rpc_message.specs.Request.{text_of, flag_of}
 use Rattle.dap_asked.specs.declared.fault.Fault.{Fault}
 use Rattle.dap_asked.specs.declared.fault.Fault.TheVariants as fault
 use Rattle.mix_dap.specs.declared.launch.Opening.{Opening}

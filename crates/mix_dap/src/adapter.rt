@@ -1,7 +1,8 @@
 //! The adapter of a program that was launched.
 
 ghost use Rattle.std.specs.Prelude.{◌≡◌, IfOk, IfNone, IfSome, IsErr, OnErr, OnOk, Ok};
-ghost use Rattle.dap_asked.specs.Prelude.{kind_asked, Refuses};
+ghost use Rattle.dap_asked.specs.Kind.{kind_asked};
+ghost use Rattle.dap_asked.specs.Fault.{Refuses};
 ghost use Rattle.mix_dap.specs.Answer.{HasTexts, LaunchTells};
 ghost use Rattle.mix_dap.specs.Prelude.{launched_of, reaction};
 ghost use Rattle.mix_dap.specs.Output.{none_told};

@@ -3,7 +3,8 @@ use Rattle.std.proofs.Common.{inl, inr, ◌≡◌, ◌+◌, ℕ, Option, None, S
 use Rattle.std.specs.Prelude.{option_to_list}
 use Rattle.std.specs.Io.KnownBytes.{prepend_known}
 use Rattle.serde_json.specs.Data.{Data}
-use Rattle.rpc_stream.specs.Prelude.{Body, HearsBodies, HearsAs, SendsFront, SendsAll, Broken}
+use Rattle.rpc_stream.specs.Prelude.{Body, HearsBodies, HearsAs, SendsFront, SendsAll}
+use Rattle.rpc_stream.specs.declared.broken.Broken.{Broken}
 use Rattle.rpc_stream.proofs.SendLemmas.{sends-none, sends-then}
 use Rattle.rpc_stream.proofs.Talking.{hears-none, hears-then}
 use Rattle.mix_lsp.specs.Protocol.{id_asked, id_in, ids_asked, ids_sent, message_of, phase_after, status_after}

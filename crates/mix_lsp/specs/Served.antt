@@ -3,7 +3,8 @@
 use Rattle.std.specs.Prelude.{◌≡◌, ◌⊎◌, ◌≤◌, ◌-◌, ◌^◌, ℕ, List, [], ◌∷◌, ◌++◌, codes, length, Option, None, Some, option_to_list, Result, Ok, Err}
 use Rattle.std.specs.Io.KnownBytes.{Appends, prepend_known}
 use Rattle.serde_json.specs.Data.{Data}
-use Rattle.rpc_stream.specs.Prelude.{Body, broken_text, SendsFront, HearsBodies, HearsAs, SendsAll, Broken}
+use Rattle.rpc_stream.specs.Prelude.{Body, broken_text, SendsFront, HearsBodies, HearsAs, SendsAll}
+use Rattle.rpc_stream.specs.declared.broken.Broken.{Broken}
 use Rattle.rpc_stream.specs.declared.broken.Broken.TheVariants as broken
 use Rattle.rpc_stream.specs.declared.hear.Heard.TheVariants as heard
 use Rattle.mix_lsp.specs.Protocol.{id_asked, id_in, ids_asked, ids_sent, message_of, phase_after, status_after}

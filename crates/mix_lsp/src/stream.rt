@@ -2,7 +2,8 @@
 
 ghost use Rattle.std.specs.Prelude.{◌≡◌, ◌≢◌, ◌≤◌, ◌<◌, ◌-◌, ◌^◌, Ok, Err, IfErr, IfOk, IfSome, OnErr, OnOk, option_map, option_to_list};
 ghost use Rattle.serde_json.specs.View.{view};
-ghost use Rattle.rpc_stream.specs.Prelude.{IsMemoryOrWrite, SendsFront, SendsAll, Broken, unheard};
+ghost use Rattle.rpc_stream.specs.Prelude.{IsMemoryOrWrite, SendsFront, SendsAll, unheard};
+ghost use Rattle.rpc_stream.specs.declared.broken.Broken.{Broken};
 ghost use Rattle.rpc_stream.specs.declared.broken.Broken.TheVariants as broken;
 ghost use Rattle.mix_stream.specs.Stream.{CountsFailure};
 ghost use Rattle.mix_lsp.specs.Served.{AnswersAs, Served, ServedAs, TellsBroken, TurnAs};

@@ -2,7 +2,12 @@
 use Rattle.std.specs.Prelude.{ℕ, Bool, true, false, cond, ◌==◌, ◌≡◌, ◌<◌, ◌≤◌, Option, Some, None, refl}
 use Rattle.std.proofs.Common.{arith}
 use Rattle.std.proofs.lemmas.List.{get_or_past}
-use Rattle.mix_word.specs.Prelude.{WordValue, zero_word, plus, sum_of, unit_count, DataReg, A, I1, I2, I3, I4, I5, I6, X, ShiftKind, Sla, Sra, Slax, Srax, Slc, Src, JumpKind}
+use Rattle.mix_word.specs.Prelude.{WordValue, zero_word, plus, sum_of, unit_count}
+use Rattle.mix_word.specs.declared.register.DataReg.{DataReg}
+use Rattle.mix_word.specs.declared.register.DataReg.TheVariants.{A, I1, I2, I3, I4, I5, I6, X}
+use Rattle.mix_word.specs.declared.operation.ShiftKind.{ShiftKind}
+use Rattle.mix_word.specs.declared.operation.ShiftKind.TheVariants.{Sla, Sra, Slax, Srax, Slc, Src}
+use Rattle.mix_word.specs.declared.operation.JumpKind.{JumpKind}
 use Rattle.mix_word.specs.declared.operation.JumpKind.TheVariants.{Jmp, Jsj, Jov, Jnov, Less, Equal, Greater, GreaterEqual, NotEqual, LessEqual}
 use Rattle.mix_machine.specs.Prelude.{WorldState, IsWorld, cell_of, unit_at, jump_writes, sum_into, shift_into, quotient_into, copy_of, transfer_start, made_by, empty_unit, last_delay, Tape, Arguments, Nothing, Copy}
 use Rattle.mix_machine.specs.Access.{cells_from, no_cells, block_from, cells_written}

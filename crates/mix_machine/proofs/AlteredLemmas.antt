@@ -3,7 +3,8 @@ use Rattle.std.specs.Prelude.{ℕ, zero, suc, ◌+◌, ◌-◌, max, Bool, true,
 use Rattle.std.proofs.Common.{ap, sym, subst, ◌∙◌, arith}
 use Rattle.std.proofs.lemmas.Bool.Decides.{nat_tests}
 use Rattle.std.proofs.lemmas.List.{get_or-set_same, get_or-set_other, length-set}
-use Rattle.mix_word.specs.Prelude.{WordValue, Reg}
+use Rattle.mix_word.specs.declared.register.Reg.{Reg}
+use Rattle.mix_word.specs.Word.{WordValue}
 use Rattle.mix_machine.specs.Prelude.{fits_register, WorldState, IsWorld, cell_of, unit_at, transfer_end, block_length, has_place, has_medium, row_of, UnitState, empty_unit, with_word, with_blocks, with_row, UnitsState, unit_of, with_unit, cut_to, length-units, set_value, Write, set, grow, print, written, write_all, copies, each, busy, place_after, from_block, from_cell, input_writes, words_out, replace_writes, append_writes, row_writes, output_writes, control_writes, writes_in, writes_of, decode_at, arguments_at, effects, applies, order, first_fault, operation_or_nop, does, plan_of, state_after, step_plan, mark_of, is_same_mark, is_altered, IsPart, UnitKind, Tape, Disk, CardReader, CardPunch, Printer, Typewriter, PaperTape, Transfer, Plan, Writes, MixFault, IndexOverflow, Change, Old, Part}
 use Rattle.mix_machine.proofs.WriteLemmas.{write_all-append}
 use Rattle.mix_machine.proofs.MarkLemmas.{until-kept, until-cut}

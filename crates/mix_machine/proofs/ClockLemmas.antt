@@ -1,6 +1,10 @@
 -- The clock goes no way but forward, none but a step moves it, a step is done at a cell, and the state after a change is one of the machine.
 use Rattle.std.proofs.Common.{ℕ, ◌≡◌, ◌≢◌, ◌≤◌, ◌<◌, Bool, true, false, cond, List, [], ◌∷◌, Option, Some, None, Result, Ok, Err, refl, ap, sym, subst, arith}
-use Rattle.mix_word.specs.Prelude.{WordValue, Operation, Reg, UnitUse, Looks, Controls, Reads, Writes}
+use Rattle.mix_word.specs.declared.operation.Operation.{Operation}
+use Rattle.mix_word.specs.declared.register.Reg.{Reg}
+use Rattle.mix_word.specs.declared.uses.UnitUse.{UnitUse}
+use Rattle.mix_word.specs.declared.uses.UnitUse.TheVariants.{Looks, Controls, Reads, Writes}
+use Rattle.mix_word.specs.Word.{WordValue}
 use Rattle.mix_machine.specs.Prelude.{fits_register, WorldState, IsWorld, use_of, start_of, decode_at, arguments_at, effects, set, Write, written, write_all, writes_in, writes_of, Arguments, Plan, MixFault, IndexOverflow, Change, Step, SetReg, SetCell, SetLoc, SetOver, SetCmp, Break, Clear}
 use Rattle.mix_machine.specs.Order.{applies, order, first_fault, operation_or_nop, clock_after}
 use Rattle.mix_machine.specs.Do.{does, plan_of, state_after, next_location, step_plan, IsReal}

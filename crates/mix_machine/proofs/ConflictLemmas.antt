@@ -3,7 +3,8 @@ use Rattle.std.specs.Prelude.{ℕ, zero, suc, false, max, nat_lt, ◌+◌, ◌�
 use Rattle.std.specs.Option.{option_or}
 use Rattle.std.proofs.Common.{sym, subst, add-one, arith}
 use Rattle.std.proofs.lemmas.Bool.Decides.{nat_tests}
-use Rattle.mix_word.specs.Prelude.{UnitUse, Looks, Controls, Reads, Writes}
+use Rattle.mix_word.specs.declared.uses.UnitUse.{UnitUse}
+use Rattle.mix_word.specs.declared.uses.UnitUse.TheVariants.{Looks, Controls, Reads, Writes}
 use Rattle.mix_machine.specs.Prelude.{WorldState, arguments_at, use_of, start_of, Change, Step, SetReg, SetCell, SetLoc, SetOver, SetCmp, Break, Clear}
 use Rattle.mix_machine.specs.Access.{operation_at, access_of}
 use Rattle.mix_machine.specs.Transfers.{TransfersState, end_of, last_end, conflict_with, conflict_from, conflict_of}

@@ -3,7 +3,15 @@ use Rattle.std.proofs.Common.{ℕ, suc, ◌+◌, ◌-◌, ◌*◌, ◌<◌, ◌�
 use Rattle.std.specs.Option.{option_map_or}
 use Rattle.std.specs.Result.{result_ok, is_ok}
 use Rattle.undo_core.specs.Replay.{count_kept}
-use Rattle.mix_word.specs.Prelude.{WordValue, plus, sum_of, DataReg, A, I1, I2, I3, I4, I5, I6, X, ShiftKind, Sla, Sra, Slax, Srax, Slc, Src, JumpKind, Decoded, Operation, Div, Shift, Move, Ioc, In, Out, Jump, Increase, Decrease}
+use Rattle.mix_word.specs.Prelude.{WordValue, plus, sum_of}
+use Rattle.mix_word.specs.declared.register.DataReg.{DataReg}
+use Rattle.mix_word.specs.declared.register.DataReg.TheVariants.{A, I1, I2, I3, I4, I5, I6, X}
+use Rattle.mix_word.specs.declared.operation.ShiftKind.{ShiftKind}
+use Rattle.mix_word.specs.declared.operation.ShiftKind.TheVariants.{Sla, Sra, Slax, Srax, Slc, Src}
+use Rattle.mix_word.specs.declared.operation.JumpKind.{JumpKind}
+use Rattle.mix_word.specs.declared.decoding.Decoded.{Decoded}
+use Rattle.mix_word.specs.declared.operation.Operation.{Operation}
+use Rattle.mix_word.specs.declared.operation.Operation.TheVariants.{Div, Shift, Move, Ioc, In, Out, Jump, Increase, Decrease}
 use Rattle.mix_word.specs.declared.operation.JumpKind.TheVariants.{Jmp, Jsj, Jov, Jnov, Less, Equal, Greater, GreaterEqual, NotEqual, LessEqual}
 use Rattle.mix_machine.specs.Prelude.{fits_register, WorldState, unit_at, block_length, has_place, has_medium, UnitKind, Tape, Disk, CardReader, CardPunch, Printer, Typewriter, PaperTape, Transfer, Old, Write, set, grow, words_out, writes_in, writes_of, copies, each, busy, from_block, from_cell, replace_writes, append_writes, row_writes, control_writes, decode_at, arguments_at, jump_writes, applies, operation_or_nop, passed, Arguments, Plan, Writes, Nothing, Copy, MixFault, IndexOverflow, Change, Step, SetReg, SetCell, SetLoc, SetOver, SetCmp, Break, Clear}
 use Rattle.mix_machine.specs.UnitAction.{wound}

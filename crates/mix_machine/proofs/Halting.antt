@@ -1,7 +1,10 @@
 -- HLT is named by C = 5 and F = 2, and by nothing else.
 use Rattle.std.proofs.Common.{ℕ, ◌≡◌, ◌<◌, ◌==◌, ◌&&◌, ◌↔◌, Bool, true, false, IsTrue, Result, Ok, Err, refl, arith}
 use Rattle.std.proofs.lemmas.Bool.Decides.{nat_tests}
-use Rattle.mix_word.specs.Prelude.{IsNamedBy, Decoded, Named, Hlt}
+use Rattle.mix_word.specs.declared.decoding.Decoded.{Decoded}
+use Rattle.mix_word.specs.declared.decoding.Decoded.TheVariants.{Named}
+use Rattle.mix_word.specs.declared.operation.Operation.TheVariants.{Hlt}
+use Rattle.mix_word.specs.Table.{IsNamedBy}
 use Rattle.mix_machine.specs.Prelude.{WorldState, IsWorld, instruction, decode_at, arguments_at, applies, operation_or_nop, does, plan_of, state_after, step_plan, is_halt_next, passed, Plan, MixFault, Step}
 
 named-hlt : (c f : ℕ) → IsNamedBy Hlt c f → (c == 5 && f == 2) ≡ true

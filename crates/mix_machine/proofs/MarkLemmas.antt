@@ -8,7 +8,8 @@ use Rattle.std.proofs.lemmas.Bool.Decides.{nat_tests}
 use Rattle.std.proofs.lemmas.List.{get_or-set_other}
 use Rattle.std.proofs.lemmas.Grind.{get_or-set_at}
 use Rattle.undo_core.specs.Replay.{put_back}
-use Rattle.mix_word.specs.Prelude.{WordValue, zero_word, Reg}
+use Rattle.mix_word.specs.declared.register.Reg.{Reg}
+use Rattle.mix_word.specs.Word.{WordValue, zero_word}
 use Rattle.mix_word.specs.declared.register.Reg.TheVariants.{A, X, I1, I2, I3, I4, I5, I6, J}
 use Rattle.mix_machine.specs.Registers.{RegistersState, held_in, with_register}
 use Rattle.mix_machine.specs.Prelude.{WorldState, IsWorld, has_medium, has_output, UnitState, empty_unit, with_word, UnitsState, unit_of, with_unit, cut_to, set_value, fits, put_value, world-set_value, length-units, Tape, Old, Part, Mark}

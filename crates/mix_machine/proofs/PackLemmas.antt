@@ -5,7 +5,8 @@ use Rattle.std.specs.Option.{option_map}
 use Rattle.std.proofs.lemmas.Bool.Decides.{nat_tests}
 use Rattle.std.proofs.lemmas.List.{reverse-append, reverse-reverse, append-nil, take-append-le}
 use Rattle.std.proofs.lemmas.Nat.{mod-mul-add, div-mul-add}
-use Rattle.mix_word.specs.Prelude.{WordValue, all_registers, Reg}
+use Rattle.mix_word.specs.Prelude.{WordValue, all_registers}
+use Rattle.mix_word.specs.declared.register.Reg.{Reg}
 use Rattle.undo_core.specs.Prelude.{unit_list, put_back}
 use Rattle.undo_core.specs.declared.pack.Last.{Last}
 use Rattle.mix_machine.specs.Prelude.{WorldState, put_value, set_value, fits, Old, Anchor, Kind, LastValue, header_of, last_of, short_word, long_word, value_by, last_value, said, seen}

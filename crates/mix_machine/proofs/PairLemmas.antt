@@ -1,6 +1,11 @@
 -- what the number of a pair says of its code
 use Rattle.std.proofs.Common.{◌≡◌, ◌↔◌, ℕ, ◌<◌, false, refl, arith}
-use Rattle.mix_word.specs.Prelude.{A, Operation, Num, Char, Hlt, Load, LoadNegated, Store, Ioc, In, Out, RegisterJump, Increase, Decrease, Enter, EnterNegated, Compare, Decoded, Named, Floating, Unknown, operation_code, decode_of, IsNamedBy, number_of_operation, number_of_pair}
+use Rattle.mix_word.specs.Prelude.{operation_code, decode_of, IsNamedBy, number_of_operation, number_of_pair}
+use Rattle.mix_word.specs.declared.register.DataReg.TheVariants.{A}
+use Rattle.mix_word.specs.declared.operation.Operation.{Operation}
+use Rattle.mix_word.specs.declared.operation.Operation.TheVariants.{Num, Char, Hlt, Load, LoadNegated, Store, Ioc, In, Out, RegisterJump, Increase, Decrease, Enter, EnterNegated, Compare}
+use Rattle.mix_word.specs.declared.decoding.Decoded.{Decoded}
+use Rattle.mix_word.specs.declared.decoding.Decoded.TheVariants.{Named, Floating, Unknown}
 use Rattle.mix_machine.specs.Do.{is_looked_at}
 
 code_not_looked_at : (op : Operation) → number_of_operation op < 40 → is_looked_at (operation_code op) ≡ false

@@ -2,7 +2,8 @@
 use Rattle.std.proofs.Common.{Bool, ℕ, zero, suc, true, false, cond, nat_eq, ◌≡◌, ◌+◌, ◌-◌, ◌/◌, ◌%◌, ◌<◌, ◌≤◌, ◌∙◌, List, [], ◌∷◌, ◌++◌, length, drop, reverse, nat_lt, slice_get, Option, None, Some, if◌then◌else◌, refl, sym, ap, subst, arith}
 use Rattle.std.specs.Option.{option_map, option_map_or, option_and_then}
 use Rattle.std.proofs.lemmas.List.{reverse-append, length-reverse}
-use Rattle.mix_word.specs.Prelude.{WordValue, all_registers, unit_count, Reg}
+use Rattle.mix_word.specs.Prelude.{WordValue, all_registers, unit_count}
+use Rattle.mix_word.specs.declared.register.Reg.{Reg}
 use Rattle.undo_core.specs.Pack.{unit_list}
 use Rattle.undo_core.specs.Counts.{run_of, newest_part, is_ended, AreOpen}
 use Rattle.mix_machine.specs.Prelude.{cell_values, is_clock, Old, Anchor, Kind}

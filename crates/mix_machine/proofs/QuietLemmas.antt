@@ -1,6 +1,15 @@
 -- Only IOC, IN and OUT make anything of a transfer.
 use Rattle.std.specs.Prelude.{◌≡◌, ◌↔◌, ℕ, Bool, true, false, cond, ◌&&◌, ◌==◌, nat_le, Option, None, Some, refl}
-use Rattle.mix_word.specs.Prelude.{operation_code, decode_of, IsNamedBy, WordValue, Decoded, Named, Floating, Unknown, DataReg, A, I1, I2, I3, I4, I5, I6, X, ShiftKind, Sla, Sra, Slax, Srax, Slc, Src, JumpKind, Operation, Nop, Add, Sub, Mul, Div, Num, Char, Hlt, Shift, Move, Load, LoadNegated, Store, StoreJ, StoreZero, Jbus, Ioc, In, Out, Jred, Jump, RegisterJump, Increase, Decrease, Enter, EnterNegated, Compare}
+use Rattle.mix_word.specs.Prelude.{operation_code, decode_of, IsNamedBy, WordValue}
+use Rattle.mix_word.specs.declared.decoding.Decoded.{Decoded}
+use Rattle.mix_word.specs.declared.decoding.Decoded.TheVariants.{Named, Floating, Unknown}
+use Rattle.mix_word.specs.declared.register.DataReg.{DataReg}
+use Rattle.mix_word.specs.declared.register.DataReg.TheVariants.{A, I1, I2, I3, I4, I5, I6, X}
+use Rattle.mix_word.specs.declared.operation.ShiftKind.{ShiftKind}
+use Rattle.mix_word.specs.declared.operation.ShiftKind.TheVariants.{Sla, Sra, Slax, Srax, Slc, Src}
+use Rattle.mix_word.specs.declared.operation.JumpKind.{JumpKind}
+use Rattle.mix_word.specs.declared.operation.Operation.{Operation}
+use Rattle.mix_word.specs.declared.operation.Operation.TheVariants.{Nop, Add, Sub, Mul, Div, Num, Char, Hlt, Shift, Move, Load, LoadNegated, Store, StoreJ, StoreZero, Jbus, Ioc, In, Out, Jred, Jump, RegisterJump, Increase, Decrease, Enter, EnterNegated, Compare}
 use Rattle.mix_word.specs.declared.operation.JumpKind.TheVariants.{Jmp, Jsj, Jov, Jnov, Less, Equal, Greater, GreaterEqual, NotEqual, LessEqual}
 use Rattle.mix_machine.specs.Prelude.{WorldState, instruction, decode_at, arguments_at, jump_writes, effects, sum_into, shift_into, quotient_into, copy_of, operation_or_nop, made_by, transfer_by, Step}
 

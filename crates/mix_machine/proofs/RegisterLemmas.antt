@@ -1,7 +1,8 @@
 -- The words of the registers in a list, each at its register's number.
 use Rattle.std.proofs.Common.{◌≡◌, ◌<◌, ◌≤◌, ◌+◌, ℕ, zero, suc, List, get_or, refl, arith}
 use Rattle.std.proofs.lemmas.Bool.Decides.{nat_tests}
-use Rattle.mix_word.specs.Prelude.{WordValue, zero_word, number_of_register, Reg}
+use Rattle.mix_word.specs.Prelude.{WordValue, zero_word, number_of_register}
+use Rattle.mix_word.specs.declared.register.Reg.{Reg}
 use Rattle.mix_word.specs.declared.register.Reg.TheVariants.{A, X, I1, I2, I3, I4, I5, I6, J}
 use Rattle.mix_machine.specs.Registers.{RegistersState, AreRegisters, registers_in, held_in, index_in}
 

@@ -6,7 +6,9 @@ use Rattle.std.specs.Cmp.Lexicographic.{pointwise_decides}
 use Rattle.std.proofs.Common.{ap, sym, subst, ◌∙◌, arith}
 use Rattle.std.proofs.lemmas.Bool.{and_parts}
 use Rattle.std.proofs.lemmas.Bool.Decides.{nat_tests}
-use Rattle.mix_word.specs.Prelude.{WordValue, word, is_same_sign, is_same_word, Sign, Plus, Minus}
+use Rattle.mix_word.specs.declared.word.Sign.{Sign}
+use Rattle.mix_word.specs.declared.word.Sign.TheVariants.{Plus, Minus}
+use Rattle.mix_word.specs.Word.{WordValue, word, is_same_sign, is_same_word}
 use Rattle.mix_machine.specs.Prelude.{RowState, UnitState, is_same_kind, is_same_row, is_same_unit, UnitKind, Tape, Disk, CardReader, CardPunch, Printer, Typewriter, PaperTape}
 
 and-true : (a b : Bool) → a ≡ true → b ≡ true → (a && b) ≡ true

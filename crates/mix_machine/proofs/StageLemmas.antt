@@ -1,6 +1,7 @@
 -- The tests of a step made in groups find the same fault as the one order does.
 use Rattle.std.proofs.Common.{◌≡◌, ◌∙◌, Bool, true, false, cond, List, [], ◌∷◌, ◌++◌, Some, None, Ok, Err, refl}
-use Rattle.mix_word.specs.Prelude.{Decoded, Named, Floating, Unknown}
+use Rattle.mix_word.specs.declared.decoding.Decoded.{Decoded}
+use Rattle.mix_word.specs.declared.decoding.Decoded.TheVariants.{Named, Floating, Unknown}
 use Rattle.mix_machine.specs.Prelude.{WorldState, applies, first_fault, order, Arguments, MixFault}
 use Rattle.mix_machine.specs.law.Stages.{of_instruction, of_address, of_operation, fault_among}
 use Rattle.mix_machine.specs.declared.fault.MixFault.TheVariants.{NoCellAtLocation, ClockFull}

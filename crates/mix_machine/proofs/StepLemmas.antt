@@ -3,7 +3,9 @@ use Rattle.std.proofs.Common.{ℕ, true, false, nat_eq, nat_lt, slice_get, ◌�
 use Rattle.std.proofs.lemmas.Bool.Decides.{nat_tests}
 use Rattle.std.proofs.lemmas.List.{reverse-append}
 use Rattle.std.proofs.lemmas.Nat.{mod-mul-add}
-use Rattle.mix_word.specs.Prelude.{WordValue, word, all_registers, number_of_register, Reg, Plus, Minus}
+use Rattle.mix_word.specs.Prelude.{WordValue, word, all_registers, number_of_register}
+use Rattle.mix_word.specs.declared.register.Reg.{Reg}
+use Rattle.mix_word.specs.declared.word.Sign.TheVariants.{Plus, Minus}
 use Rattle.mix_word.specs.declared.register.Reg.TheVariants as reg
 use Rattle.mix_machine.specs.Prelude.{Old, Anchor, Kind}
 use Rattle.mix_machine.specs.declared.old.Old.TheVariants as old

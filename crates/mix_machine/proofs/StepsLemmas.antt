@@ -4,7 +4,8 @@ use Rattle.std.proofs.lemmas.Bool.Decides.{nat_tests}
 use Rattle.std.proofs.lemmas.List.{append-nil}
 use Rattle.undo_core.specs.Repeat.{Repeats, goes_unless}
 use Rattle.undo_core.specs.law.Repeating.{did-more}
-use Rattle.mix_refused.specs.Prelude.{Refused, Fault, Memory}
+use Rattle.mix_refused.specs.declared.refused.Refused.{Refused}
+use Rattle.mix_refused.specs.declared.refused.Refused.TheVariants.{Fault, Memory}
 use Rattle.mix_word.specs.Prelude.{WordValue, parts_of, decode_of}
 use Rattle.mix_machine.specs.Prelude.{WorldState, IsWorld, cell_of, arguments_of, does, kept_values, plan_of, step_or_fault, IsReal, is_plain_next, is_step, Carried, Plan, MixFault, Change, Step, Old}
 use Rattle.mix_machine.specs.Fault.{answer_of, fault_of}

@@ -3,7 +3,8 @@ use Rattle.std.specs.Prelude.{ℕ, zero, suc, ◌+◌, Bool, true, false, not, c
 use Rattle.std.proofs.Common.{subst, ◌∙◌, arith}
 use Rattle.std.proofs.lemmas.Bool.Decides.{nat_tests}
 use Rattle.std.proofs.lemmas.List.{get_or-set_other}
-use Rattle.mix_word.specs.Prelude.{WordValue, zero_word, Reg}
+use Rattle.mix_word.specs.declared.register.Reg.{Reg}
+use Rattle.mix_word.specs.Word.{WordValue, zero_word}
 use Rattle.mix_machine.specs.Prelude.{fits_register, WorldState, cell_of, unit_at, decode_at, arguments_at, effects, applies, order, first_fault, operation_or_nop, does, plan_of, state_after, step_plan, set_value, Write, set, grow, print, written, write_all, copies, each, place_after, from_block, from_cell, input_writes, replace_writes, append_writes, row_writes, control_writes, writes_in, writes_of, block_length, has_place, has_medium, UnitKind, Tape, Disk, CardReader, CardPunch, Printer, Typewriter, PaperTape, Transfer, Writes, Plan, MixFault, IndexOverflow, Change, Old}
 use Rattle.mix_machine.specs.Access.{cells_from, has_cell, cells_written, access_of}
 use Rattle.mix_machine.proofs.AlteredLemmas.{Every, every-append}

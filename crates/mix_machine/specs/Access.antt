@@ -1,7 +1,9 @@
 -- Which cells a change uses, and at which clock: the cell of its instruction, those that it reads and those that it
 -- writes (1.3.1).
 use Rattle.std.specs.Prelude.{ℕ, ◌+◌, Bool, ◌&&◌, nat_le, nat_lt}
-use Rattle.mix_word.specs.Prelude.{Operation, Uses, uses_of}
+use Rattle.mix_word.specs.declared.operation.Operation.{Operation}
+use Rattle.mix_word.specs.declared.uses.Uses.{Uses}
+use Rattle.mix_word.specs.Uses.{uses_of}
 use Rattle.mix_word.specs.declared.uses.Uses.TheVariants as uses
 use Rattle.mix_word.specs.declared.uses.UnitUse.TheVariants as unit
 use Rattle.mix_machine.specs.World.{WorldState, unit_at}

@@ -1,7 +1,8 @@
 -- The instruction at the location and what it gives to its operation: I, M and F (1.3.1, "Instruction format").
 use Rattle.std.specs.Prelude.{ℕ, Bool, ◌&&◌, nat_lt, unwrap_or}
 use Rattle.std.specs.Option.{is_some}
-use Rattle.mix_word.specs.Prelude.{WordValue, word, parts_of, is_natural, sum_of, FieldValue, field, field_of, field_value_of, decode_of, Decoded}
+use Rattle.mix_word.specs.Prelude.{WordValue, word, parts_of, is_natural, sum_of, FieldValue, field, field_of, field_value_of, decode_of}
+use Rattle.mix_word.specs.declared.decoding.Decoded.{Decoded}
 use Rattle.mix_word.specs.declared.word.Parts.{Parts}
 use Rattle.mix_machine.specs.Registers.{index_in}
 use Rattle.mix_machine.specs.World.{WorldState, cell_of}

@@ -1,6 +1,7 @@
 -- What a change does: the new state, or the first fault, which leaves the state as it was.
 use Rattle.std.specs.Prelude.{true, false, ℕ, Bool, ◌&&◌, ◌||◌, ◌==◌, ◌<◌, nat_le, nat_lt, not, if◌then◌else◌, List, [], ◌+◌, Result, Ok, Err}
-use Rattle.mix_word.specs.Prelude.{Decoded, Operation}
+use Rattle.mix_word.specs.declared.decoding.Decoded.{Decoded}
+use Rattle.mix_word.specs.declared.operation.Operation.{Operation}
 use Rattle.mix_machine.specs.Registers.{fits_register}
 use Rattle.mix_machine.specs.World.{WorldState}
 use Rattle.mix_machine.specs.Write.{write_all, kept_by, writes_of}

@@ -1,7 +1,14 @@
 -- What each operation writes beside the location and the clock, and whether it jumps to M, all read from the
 -- state before the step (1.3.1, "MIX operators").
 use Rattle.std.specs.Prelude.{ℕ, ◌+◌, Bool, true, false, not, ◌||◌, ◌&&◌, ◌==◌, nat_le, Option, Some, None, if◌then◌else◌}
-use Rattle.mix_word.specs.Prelude.{WordValue, plus, zero_word, negation_of, is_natural, sum_of, product_of, quotient_of, put_field_of, reg_of, DataReg, A, I1, I2, I3, I4, I5, I6, X, ShiftKind, Sla, Sra, Slax, Srax, Slc, Src, Operation, Nop, Add, Sub, Mul, Div, Num, Char, Hlt, Shift, Move, Load, LoadNegated, Store, StoreJ, StoreZero, Jbus, Ioc, In, Out, Jred, Jump, RegisterJump, Increase, Decrease, Enter, EnterNegated, Compare, Uses, uses_of}
+use Rattle.mix_word.specs.Prelude.{WordValue, plus, zero_word, negation_of, is_natural, sum_of, product_of, quotient_of, put_field_of, reg_of, uses_of}
+use Rattle.mix_word.specs.declared.register.DataReg.{DataReg}
+use Rattle.mix_word.specs.declared.register.DataReg.TheVariants.{A, I1, I2, I3, I4, I5, I6, X}
+use Rattle.mix_word.specs.declared.operation.ShiftKind.{ShiftKind}
+use Rattle.mix_word.specs.declared.operation.ShiftKind.TheVariants.{Sla, Sra, Slax, Srax, Slc, Src}
+use Rattle.mix_word.specs.declared.operation.Operation.{Operation}
+use Rattle.mix_word.specs.declared.operation.Operation.TheVariants.{Nop, Add, Sub, Mul, Div, Num, Char, Hlt, Shift, Move, Load, LoadNegated, Store, StoreJ, StoreZero, Jbus, Ioc, In, Out, Jred, Jump, RegisterJump, Increase, Decrease, Enter, EnterNegated, Compare}
+use Rattle.mix_word.specs.declared.uses.Uses.{Uses}
 use Rattle.mix_word.specs.Conversion.{num_of, digit_characters_of}
 use Rattle.mix_word.specs.Shift.{shift_of}
 use Rattle.mix_word.specs.Comparison.{comparison_of}

@@ -1,6 +1,9 @@
 -- When a jump is taken, and what it writes (1.3.1, "Jump operators").
 use Rattle.std.specs.Prelude.{◌+◌, Bool, true, false, not, ◌&&◌, ◌==◌, if◌then◌else◌}
-use Rattle.mix_word.specs.Prelude.{WordValue, plus, is_plus, Cmp, JumpKind, Condition}
+use Rattle.mix_word.specs.declared.word.Cmp.{Cmp}
+use Rattle.mix_word.specs.declared.operation.JumpKind.{JumpKind}
+use Rattle.mix_word.specs.declared.operation.Condition.{Condition}
+use Rattle.mix_word.specs.Word.{WordValue, plus, is_plus}
 use Rattle.mix_word.specs.declared.word.Cmp.TheVariants.{Less as Lower, Equal as Same, Greater as Higher}
 use Rattle.mix_word.specs.declared.register.Reg.TheVariants as reg
 use Rattle.mix_word.specs.declared.operation.JumpKind.TheVariants.{Jmp, Jsj, Jov, Jnov, Less, Equal, Greater, GreaterEqual, NotEqual, LessEqual}

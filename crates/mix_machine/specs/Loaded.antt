@@ -1,6 +1,7 @@
 -- The machine with a program in it, before its first step (The Art of Computer Programming, 1.3.1 and 1.3.2).
 use Rattle.std.specs.Prelude.{ℕ, List, [], ◌∷◌, false, replicate, slice_set}
-use Rattle.mix_word.specs.Prelude.{WordValue, zero_word, Equal}
+use Rattle.mix_word.specs.declared.word.Cmp.TheVariants.{Equal}
+use Rattle.mix_word.specs.Word.{WordValue, zero_word}
 use Rattle.mix_machine.specs.Registers.{blank_registers}
 use Rattle.mix_machine.specs.World.{WorldState}
 use Rattle.mix_machine.specs.units.Units.{UnitsState}

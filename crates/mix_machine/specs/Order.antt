@@ -2,7 +2,10 @@
 use Rattle.std.specs.Prelude.{ℕ, Bool, true, false, not, ◌&&◌, ◌==◌, nat_le, nat_lt, if◌then◌else◌, List, [], ◌∷◌, ◌+◌, Result, Ok, Err}
 use Rattle.mix_word.specs.Operation.{time_of}
 use Rattle.mix_word.specs.Uses.{Needs, needs, unit_count}
-use Rattle.mix_word.specs.Prelude.{Decoded, Named, Floating, Unknown, Operation, Nop}
+use Rattle.mix_word.specs.declared.decoding.Decoded.{Decoded}
+use Rattle.mix_word.specs.declared.decoding.Decoded.TheVariants.{Named, Floating, Unknown}
+use Rattle.mix_word.specs.declared.operation.Operation.{Operation}
+use Rattle.mix_word.specs.declared.operation.Operation.TheVariants.{Nop}
 use Rattle.mix_machine.specs.Registers.{fits_register}
 use Rattle.mix_machine.specs.World.{WorldState, unit_at, last_clock}
 use Rattle.mix_machine.specs.Decode.{is_field}

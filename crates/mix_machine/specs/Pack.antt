@@ -3,7 +3,10 @@
 -- location and its clock, may be said by how far they are from those after the step, the anchor: then one header says two values or three.
 use Rattle.std.specs.Prelude.{ℕ, ◌≡◌, ◌+◌, ◌-◌, ◌*◌, ◌/◌, ◌%◌, ◌^◌, Bool, true, false, cond, nat_eq, nat_lt, zero, suc, List, [], ◌∷◌, ◌++◌, length, take, reverse, Option, None, Some, slice_get}
 use Rattle.std.specs.Option.{option_map, option_map_or, option_and_then}
-use Rattle.mix_word.specs.Prelude.{WordValue, word, all_registers, unit_count, Reg, Plus, Minus, Cmp}
+use Rattle.mix_word.specs.Prelude.{WordValue, word, all_registers, unit_count}
+use Rattle.mix_word.specs.declared.register.Reg.{Reg}
+use Rattle.mix_word.specs.declared.word.Sign.TheVariants.{Plus, Minus}
+use Rattle.mix_word.specs.declared.word.Cmp.{Cmp}
 use Rattle.mix_word.specs.declared.register.Reg.TheVariants as reg
 use Rattle.mix_word.specs.declared.word.Cmp.TheVariants as cmp
 use Rattle.undo_core.specs.Pack.{unit_list}

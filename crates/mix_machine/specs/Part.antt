@@ -3,7 +3,9 @@
 use Rattle.std.specs.Prelude.{Bool, true, false, not, ◌==◌, ◌&&◌, ◌<◌, if◌then◌else◌, List, [], ◌∷◌, Option, None, Some, unwrap_or}
 use Rattle.std.specs.Bool.{beq}
 use Rattle.std.specs.Cmp.Lexicographic.{pointwise}
-use Rattle.mix_word.specs.Prelude.{is_same_word, number_of_register, unit_count, Reg, Cmp}
+use Rattle.mix_word.specs.Prelude.{is_same_word, number_of_register, unit_count}
+use Rattle.mix_word.specs.declared.register.Reg.{Reg}
+use Rattle.mix_word.specs.declared.word.Cmp.{Cmp}
 use Rattle.mix_word.specs.declared.word.Cmp.TheVariants.{Less, Equal, Greater}
 use Rattle.mix_machine.specs.World.{WorldState, register_of, cell_of, unit_at}
 use Rattle.mix_machine.specs.units.Row.{RowState}

@@ -1,18 +1,20 @@
 -- The names of this crate that most files cite, passed on from one place. Declares nothing.
 pub use Rattle.mix_machine.specs.Cells.{IsRow, cell_values, with_copies, with_words, words_of}
 pub use Rattle.mix_machine.specs.Decode.{arguments_at, arguments_of, decode_at, instruction}
-pub use Rattle.mix_machine.specs.Do.{IsReal, does, is_halt_next, is_looked_at, is_plain_next, is_step, kept_values, plan_of, state_after, step_or_fault, step_plan}
+pub use Rattle.mix_machine.specs.Do.{IsReal, is_halt_next, is_looked_at, is_plain_next, is_step, state_after, step_or_fault, step_plan}
+unfoldable pub use Rattle.mix_machine.specs.Do.{does, kept_values, plan_of}
 pub use Rattle.mix_machine.specs.Effects.{copy_of, effects, quotient_into, shift_into, sum_into}
-pub use Rattle.mix_machine.specs.Fault.{answer_of, fault_line}
+pub use Rattle.mix_machine.specs.Fault.{answer_of}
 pub use Rattle.mix_machine.specs.Jump.{jump_writes}
 pub use Rattle.mix_machine.specs.KeptCount.{most_kept}
-pub use Rattle.mix_machine.specs.Loaded.{loaded}
+unfoldable pub use Rattle.mix_machine.specs.Loaded.{loaded}
 pub use Rattle.mix_machine.specs.Many.{ends_at, ends_if}
 pub use Rattle.mix_machine.specs.Order.{applies, first_fault, operation_or_nop, order}
 pub use Rattle.mix_machine.specs.Pack.{LastValue, header_of, last_of, last_value, long_word, said, seen, short_word, value_by}
 pub use Rattle.mix_machine.specs.Part.{IsPart, is_altered, is_same_indicator, is_same_kind, is_same_mark, is_same_row, is_same_unit, mark_before, mark_given, mark_of}
 pub use Rattle.mix_machine.specs.Registers.{RegistersState, fits_register}
-pub use Rattle.mix_machine.specs.Transfers.{TransfersState, conflict_of, last_end, made_by, no_transfers, transfer_by, transfers_after}
+pub use Rattle.mix_machine.specs.Transfers.{TransfersState, conflict_of, last_end, made_by, no_transfers, transfers_after}
+unfoldable pub use Rattle.mix_machine.specs.Transfers.{transfer_by}
 pub use Rattle.mix_machine.specs.UnitAction.{start_of, transfer_end, transfer_start, use_of}
 pub use Rattle.mix_machine.specs.View.{view_of}
 pub use Rattle.mix_machine.specs.World.{IsWorld, WorldState, cell_of, has_break, last_clock, register_of, unit_at}
@@ -20,7 +22,6 @@ pub use Rattle.mix_machine.specs.Write.{Write, append_writes, busy, control_writ
 pub use Rattle.mix_machine.specs.declared.decode.Arguments.{Arguments}
 pub use Rattle.mix_machine.specs.declared.fault.MixFault.{MixFault}
 pub use Rattle.mix_machine.specs.declared.fault.MixFault.TheVariants.{IndexOverflow}
-pub use Rattle.mix_machine.specs.declared.many.Many.{Many}
 pub use Rattle.mix_machine.specs.declared.old.Change.{Change}
 pub use Rattle.mix_machine.specs.declared.old.Change.TheVariants.{Break, Clear, SetCell, SetCmp, SetLoc, SetOver, SetReg, Step}
 pub use Rattle.mix_machine.specs.declared.old.Old.{Old}
@@ -29,14 +30,11 @@ pub use Rattle.mix_machine.specs.declared.pack.anchor.Anchor.{Anchor}
 pub use Rattle.mix_machine.specs.declared.pack.kind.Kind.{Kind}
 pub use Rattle.mix_machine.specs.declared.part.Mark.{Mark}
 pub use Rattle.mix_machine.specs.declared.part.Part.{Part}
-pub use Rattle.mix_machine.specs.declared.part.Part.TheVariants.{Clock, Loc}
 pub use Rattle.mix_machine.specs.declared.plan.Plan.{Plan}
 pub use Rattle.mix_machine.specs.declared.plan.Transfer.{Transfer}
 pub use Rattle.mix_machine.specs.declared.plan.Writes.{Writes}
 pub use Rattle.mix_machine.specs.declared.plan.Writes.TheVariants.{Copy, Nothing}
-pub use Rattle.mix_machine.specs.declared.transfers.Conflict.{Conflict}
 pub use Rattle.mix_machine.specs.declared.transfers.Pending.{Pending}
-pub use Rattle.mix_machine.specs.declared.units.deck_fault.DeckFault.{DeckFault}
 pub use Rattle.mix_machine.specs.declared.units.kind.UnitKind.{UnitKind}
 pub use Rattle.mix_machine.specs.declared.units.kind.UnitKind.TheVariants.{CardPunch, CardReader, Disk, PaperTape, Printer, Tape, Typewriter}
 pub use Rattle.mix_machine.specs.law.Carried.{Carried}
@@ -54,4 +52,5 @@ pub use Rattle.mix_machine.specs.units.UnitKind.{block_length, has_medium, has_o
 pub use Rattle.mix_machine.specs.units.Units.{UnitsState, can_cut, cut_to, fits_item, length_of, unit_of, with_unit}
 pub use Rattle.mix_machine.specs.units.View.{unit_of_fields}
 pub use Rattle.mix_machine.specs.units.deck.Block.{deck_words, words_from}
-pub use Rattle.mix_machine.specs.units.deck.Deck.{cards_of, deck_of, max_deck_bytes, text_of_unit, typewriter_of}
+pub use Rattle.mix_machine.specs.units.deck.Deck.{cards_of, max_deck_bytes, typewriter_of}
+unfoldable pub use Rattle.mix_machine.specs.units.deck.Deck.{deck_of, text_of_unit}

@@ -1,6 +1,8 @@
 -- The nine registers (1.3.1): what each holds, and what it can hold.
 use Rattle.std.specs.Prelude.{ℕ, ◌≡◌, ◌<◌, Bool, true, ◌==◌, ◌&&◌, nat_lt, List, slice_index_or, if◌then◌else◌}
-use Rattle.mix_word.specs.Prelude.{WordValue, zero_word, is_plus, Reg, Plus}
+use Rattle.mix_word.specs.declared.register.Reg.{Reg}
+use Rattle.mix_word.specs.declared.word.Sign.TheVariants.{Plus}
+use Rattle.mix_word.specs.Word.{WordValue, zero_word, is_plus}
 use Rattle.mix_word.specs.declared.register.Reg.TheVariants.{A, X, I1, I2, I3, I4, I5, I6, J}
 
 -- what each of them holds

@@ -2,7 +2,10 @@
 -- operators").
 use Rattle.std.specs.Prelude.{ℕ, ◌+◌, ◌-◌, max, Bool, true, false, not, ◌&&◌, ◌||◌, ◌==◌, nat_le, nat_lt, length, Option, Some, None, if◌then◌else◌}
 use Rattle.std.specs.Option.{is_some}
-use Rattle.mix_word.specs.Prelude.{WordValue, is_plus, is_natural, Operation, UnitUse, Looks, Controls, Reads, Writes, needs}
+use Rattle.mix_word.specs.Prelude.{WordValue, is_plus, is_natural, needs}
+use Rattle.mix_word.specs.declared.operation.Operation.{Operation}
+use Rattle.mix_word.specs.declared.uses.UnitUse.{UnitUse}
+use Rattle.mix_word.specs.declared.uses.UnitUse.TheVariants.{Looks, Controls, Reads, Writes}
 use Rattle.mix_machine.specs.World.{WorldState, unit_at}
 use Rattle.mix_machine.specs.Jump.{is_positive}
 use Rattle.mix_machine.specs.units.UnitKind.{has_place, has_medium, has_output}

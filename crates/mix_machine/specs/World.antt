@@ -1,6 +1,8 @@
 -- The state of the machine (The Art of Computer Programming, 1.3.1, "Description of MIX").
 use Rattle.std.specs.Prelude.{ℕ, Bool, false, List, ◌≡◌, ◌≤◌, ◌^◌, length, slice_index_or, slice_set}
-use Rattle.mix_word.specs.Prelude.{WordValue, zero_word, Cmp, Reg}
+use Rattle.mix_word.specs.declared.word.Cmp.{Cmp}
+use Rattle.mix_word.specs.declared.register.Reg.{Reg}
+use Rattle.mix_word.specs.Word.{WordValue, zero_word}
 use Rattle.mix_machine.specs.Registers.{RegistersState, AreRegisters, held_in}
 use Rattle.mix_machine.specs.units.Unit.{UnitState}
 use Rattle.mix_machine.specs.units.Units.{UnitsState, AreUnits, unit_of}

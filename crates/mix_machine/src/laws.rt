@@ -1,7 +1,8 @@
 //! What follows from the definitions alone.
 ghost use Rattle.std.specs.Prelude.{◌≡◌, ◌≢◌, ◌≤◌, ◌<◌, ◌*◌, ◌↔◌, IsTrue, not, List, Ok, Some, length};
 ghost use Rattle.undo_core.specs.Replay.{count_kept, put_back};
-ghost use Rattle.mix_word.specs.Prelude.{Hlt, Named};
+ghost use Rattle.mix_word.specs.declared.operation.Operation.TheVariants.{Hlt};
+ghost use Rattle.mix_word.specs.declared.decoding.Decoded.TheVariants.{Named};
 ghost use Rattle.mix_machine.specs.Prelude.{WorldState, IsWorld, decode_at, does, is_halt_next, kept_values, IsReal, UnitState, put_value, IsPart, mark_of, mark_before, is_same_mark, is_same_unit, is_altered, Change, Step, Old, Part};
 ghost use Rattle.mix_machine.specs.KeptCount.{kept_count, most_kept};
 

@@ -2,7 +2,8 @@
 use Rattle.std.specs.Prelude.{ℕ, ◌-◌, ◌&&◌, ◌||◌, List, [], ◌∷◌, Bool, false, codes, is_some, length, Option, None, Some, if◌then◌else◌}
 use Rattle.std.specs.Str.{str_eq_ignore_ascii_case}
 use Rattle.mix_lines.specs.Lines.{words}
-use Rattle.mix_machine.specs.Prelude.{is_halt_next, WorldState, Change}
+use Rattle.mix_machine.specs.Prelude.{is_halt_next, WorldState}
+use Rattle.mix_machine.specs.declared.old.Change.{Change}
 use Rattle.mix_session.specs.Prelude.{world_at, change_numbered, is_step, SessionState, Timeline}
 use Rattle.mix_views.specs.View.{is_view}
 use Rattle.mix_person.specs.Person.{is_one_of, is_register}

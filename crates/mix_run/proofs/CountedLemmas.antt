@@ -7,7 +7,8 @@ use Rattle.std.specs.Io.KnownBytes.{Appends}
 use Rattle.mix_stream.specs.Stream.{AppendsFront}
 use Rattle.mix_run.specs.declared.fault.ToolFault.TheVariants as faults
 use Rattle.mix_machine.specs.Prelude.{WorldState, UnitsState}
-use Rattle.mix_session.specs.Prelude.{after, tally_at, SessionState, opened, tally_in, Timeline, world_of, Tally}
+use Rattle.mix_session.specs.Prelude.{after, tally_at, SessionState, opened, tally_in, Timeline, world_of}
+use Rattle.mix_session.specs.declared.tally.Tally.{Tally}
 use Rattle.mix_run.specs.Counted.{EndTableValue, count_names, count_row, count_rows, count_rows_at, counted_run, counted_steps, counts_table, end_of, end_text}
 use Rattle.mix_run.specs.Prelude.{DrawnIf, kept_if, counted, FieldValue, footer_text, header_text, row_text, rows_text, table_text, Ran, PrintAnswer, Printed, PrintOptions, RunEnd, Stepped, TableFormat}
 use Rattle.mix_run.specs.PrintOutput.{Leaves, came_to, counted_outcome, ran_to}

@@ -2,7 +2,8 @@
 use Rattle.std.proofs.Common.{◌≡◌, ◌<◌, ◌≤◌, ℕ, Bool, true, false, List, Option, Result, Ok, Err, refl, sym, ap, ◌∙◌, length, ltb, take, arith}
 use Rattle.std.proofs.lemmas.Bool.{lt-ltb, ltb-false, ltb-true}
 use Rattle.std.proofs.lemmas.List.{length-take-le, take_all}
-use Rattle.mixal_asm.specs.Prelude.{assembly, ProgramValue, AsmFault}
+use Rattle.mixal_asm.specs.Prelude.{assembly, ProgramValue}
+use Rattle.mixal_asm.specs.declared.fault.AsmFault.{AsmFault}
 use Rattle.mix_machine.specs.units.deck.Deck.{deck_of}
 use Rattle.mix_run.specs.Prelude.{debug_output, Meets, outcome_of, output, refusal_of, parts_of, deck_given, ToolFault}
 use Rattle.mix_run.specs.law.Truncation.{assembly-whole, parts-read}

@@ -2,8 +2,10 @@
 use Rattle.std.proofs.Common.{◌≡◌, ◌∙◌, ◌||◌, ℕ, Bool, true, false, List, [], Option, None, Some, Result, Ok, Err, ap, is_some, refl, sym}
 use Rattle.std.specs.Io.KnownBytes.{Appends}
 use Rattle.mixal_asm.specs.Program.{ProgramValue}
-use Rattle.mix_machine.specs.Prelude.{loaded, WorldState, Part, UnitsState}
-use Rattle.mix_session.specs.Prelude.{world_at, SessionState, opened, Refusal}
+use Rattle.mix_machine.specs.Prelude.{loaded, WorldState, UnitsState}
+use Rattle.mix_machine.specs.declared.part.Part.{Part}
+use Rattle.mix_session.specs.Prelude.{world_at, SessionState, opened}
+use Rattle.mix_session.specs.declared.fault.Refusal.{Refusal}
 use Rattle.mix_run.specs.Counted.{EndTableValue, end_table_asked, end_table_of}
 use Rattle.mix_run.specs.Drawn.{DrawnIf, DrawnRun, DrawnSteps}
 use Rattle.mix_run.specs.Prelude.{kept_if, Run, counted, run_of, ToolFault, NoTable, Ran, Printed, PrintOptions, Stepped}

@@ -5,7 +5,8 @@ use Rattle.std.proofs.lemmas.Str.{IsUtf8-from_is_utf8, is_utf8-from_IsUtf8}
 use Rattle.std.specs.List.{slice_split}
 use Rattle.std.specs.Option.{option_and_then}
 use Rattle.std.specs.Str.{IsUtf8, is_utf8}
-use Rattle.mix_formula.specs.Prelude.{all_values, given_of, NameValue, all_named, named, RowValue, Named}
+use Rattle.mix_formula.specs.Prelude.{all_values, given_of, NameValue, all_named, named, RowValue}
+use Rattle.mix_formula.specs.declared.names.Named.{Named}
 use Rattle.mix_views.specs.Analysis.{given_first, given_in, given_onto}
 use Rattle.mixal_text.specs.Prelude.{is_comma, pieces_of}
 use Rattle.mix_run.specs.Formulas.{formula_field, formula_names, formula_rows, lines_table}

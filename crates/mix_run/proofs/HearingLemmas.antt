@@ -7,7 +7,9 @@ use Rattle.std.proofs.lemmas.List.Folds.{list_any-append}
 use Rattle.std.specs.List.{list_any}
 use Rattle.std.specs.Io.KnownBytes.{Appends}
 use Rattle.mix_lines.specs.Lines.{is_line_feed, lines, lines-nil, words}
-use Rattle.mix_session.specs.Prelude.{SessionState, told_of_both, Told, Accepted}
+use Rattle.mix_session.specs.Prelude.{SessionState, told_of_both}
+use Rattle.mix_session.specs.declared.reply.Told.{Told}
+use Rattle.mix_session.specs.declared.reply.Told.TheVariants.{Accepted}
 use Rattle.mix_stream.specs.Stream.{AppendsFront}
 use Rattle.mix_run.specs.Prelude.{after_lines, answers, asked, is_over, is_quit, recalled_all, IsMemoryOrWrite, Files, Saved, noted, replies, ToolFault, Talker, Moment}
 use Rattle.mix_run.specs.Hearing.{Answered, Hears}

@@ -9,7 +9,9 @@ use Rattle.std.specs.List.{prefix_len}
 use Rattle.std.specs.Str.Parse.{AllDigits}
 use Rattle.json.specs.Print.{IsNumber}
 use Rattle.json.specs.Word.{after_minus, after_number, after_whole}
-use Rattle.mix_word.specs.Prelude.{signed_text, Sign, Plus, Minus}
+use Rattle.mix_word.specs.declared.word.Sign.{Sign}
+use Rattle.mix_word.specs.declared.word.Sign.TheVariants.{Plus, Minus}
+use Rattle.mix_word.specs.Instruction.{signed_text}
 use Rattle.mix_run.specs.Table.{FieldValue, members}
 
 digits-only : (ds : List ℕ) → AllDigits 10 ds → prefix_len is_ascii_digit ds ≡ length ds

@@ -1,11 +1,25 @@
 -- Steps of no unit: they make nothing of a transfer and alter no unit, so that no row is printed.
 use Rattle.std.specs.Prelude.{◌≡◌, ◌↔◌, ℕ, zero, suc, Bool, true, false, cond, ◌||◌, ◌&&◌, ◌==◌, ◌<◌, ◌≤◌, nat_le, nat_lt, not, List, [], ◌∷◌, ◌++◌, Option, None, Some, Result, Ok, Err, refl, ◌+◌}
 use Rattle.std.proofs.Common.{append_assoc, ◌∙◌, ap, arith, subst, sym}
-use Rattle.mix_word.specs.Prelude.{operation_code, decode_of, IsNamedBy, WordValue, Decoded, Named, Floating, Unknown, DataReg, A, I1, I2, I3, I4, I5, I6, X, ShiftKind, Sla, Sra, Slax, Srax, Slc, Src, JumpKind, Operation, Nop, Add, Sub, Mul, Div, Num, Char, Hlt, Shift, Move, Load, LoadNegated, Store, StoreJ, StoreZero, Jbus, Ioc, In, Out, Jred, Jump, RegisterJump, Increase, Decrease, Enter, EnterNegated, Compare}
+use Rattle.mix_word.specs.Prelude.{operation_code, decode_of, IsNamedBy, WordValue}
+use Rattle.mix_word.specs.declared.decoding.Decoded.{Decoded}
+use Rattle.mix_word.specs.declared.decoding.Decoded.TheVariants.{Named, Floating, Unknown}
+use Rattle.mix_word.specs.declared.register.DataReg.{DataReg}
+use Rattle.mix_word.specs.declared.register.DataReg.TheVariants.{A, I1, I2, I3, I4, I5, I6, X}
+use Rattle.mix_word.specs.declared.operation.ShiftKind.{ShiftKind}
+use Rattle.mix_word.specs.declared.operation.ShiftKind.TheVariants.{Sla, Sra, Slax, Srax, Slc, Src}
+use Rattle.mix_word.specs.declared.operation.JumpKind.{JumpKind}
+use Rattle.mix_word.specs.declared.operation.Operation.{Operation}
+use Rattle.mix_word.specs.declared.operation.Operation.TheVariants.{Nop, Add, Sub, Mul, Div, Num, Char, Hlt, Shift, Move, Load, LoadNegated, Store, StoreJ, StoreZero, Jbus, Ioc, In, Out, Jred, Jump, RegisterJump, Increase, Decrease, Enter, EnterNegated, Compare}
 use Rattle.mix_word.specs.declared.register.Reg.TheVariants as reg
 use Rattle.mix_word.specs.declared.operation.JumpKind.TheVariants.{Jmp, Jsj, Jov, Jnov, Less, Equal, Greater, GreaterEqual, NotEqual, LessEqual}
 use Rattle.mix_machine.specs.World.{IsWorld, WorldState, cell_of, with_cell}
-use Rattle.mix_machine.specs.Prelude.{instruction, decode_at, arguments_at, IsReal, does, is_looked_at, is_plain_next, is_step, kept_values, plan_of, state_after, step_plan, jump_writes, effects, sum_into, shift_into, quotient_into, copy_of, applies, operation_or_nop, TransfersState, conflict_of, last_end, made_by, transfer_by, Write, set, copies, write_all, writes_in, writes_of, passed, UnitsState, MixFault, Change, Step, Old, Pending}
+use Rattle.mix_machine.specs.Prelude.{instruction, decode_at, arguments_at, IsReal, does, is_looked_at, is_plain_next, is_step, kept_values, plan_of, state_after, step_plan, jump_writes, effects, sum_into, shift_into, quotient_into, copy_of, applies, operation_or_nop, TransfersState, conflict_of, last_end, made_by, transfer_by, Write, set, copies, write_all, writes_in, writes_of, passed, UnitsState}
+use Rattle.mix_machine.specs.declared.fault.MixFault.{MixFault}
+use Rattle.mix_machine.specs.declared.old.Change.{Change}
+use Rattle.mix_machine.specs.declared.old.Change.TheVariants.{Step}
+use Rattle.mix_machine.specs.declared.old.Old.{Old}
+use Rattle.mix_machine.specs.declared.transfers.Pending.{Pending}
 use Rattle.mix_machine.specs.declared.old.Old.TheVariants as old
 use Rattle.undo_core.specs.Repeat.{Repeats}
 use Rattle.mix_run.specs.Prelude.{Run, printed, printed_first, stops, written_by, PrintOptions}

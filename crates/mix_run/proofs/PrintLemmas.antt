@@ -2,7 +2,9 @@
 use Rattle.std.proofs.Common.{◌≡◌, ℕ, Bool, true, false, List, [], ◌++◌, Option, Result, Ok, Err, IfOk, refl, sym, ap, ◌∙◌, arith, append_assoc, length}
 use Rattle.std.proofs.lemmas.List.{append-nil}
 use Rattle.std.specs.Io.KnownBytes.{Appends}
-use Rattle.mix_machine.specs.Prelude.{does, WorldState, unit_at, UnitState, MixFault, Step}
+use Rattle.mix_machine.specs.Prelude.{does, WorldState, unit_at, UnitState}
+use Rattle.mix_machine.specs.declared.fault.MixFault.{MixFault}
+use Rattle.mix_machine.specs.declared.old.Change.TheVariants.{Step}
 use Rattle.mix_session.specs.Change.{change_line}
 use Rattle.mix_stream.specs.Stream.{AppendsFront}
 use Rattle.mix_run.specs.Print.{if_asked, printed_row, printed_from, printed_between, traced_line, written_by}

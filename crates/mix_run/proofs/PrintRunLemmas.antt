@@ -4,7 +4,10 @@ use Rattle.std.proofs.lemmas.List.{append-nil, length-append}
 use Rattle.std.specs.Prelude.{option_map}
 use Rattle.std.specs.Io.KnownBytes.{Appends}
 use Rattle.std.specs.Option.{option_or}
-use Rattle.mix_machine.specs.Prelude.{does, is_halt_next, TransfersState, conflict_of, transfers_after, WorldState, MixFault, Step, Conflict}
+use Rattle.mix_machine.specs.Prelude.{does, is_halt_next, TransfersState, conflict_of, transfers_after, WorldState}
+use Rattle.mix_machine.specs.declared.fault.MixFault.{MixFault}
+use Rattle.mix_machine.specs.declared.old.Change.TheVariants.{Step}
+use Rattle.mix_machine.specs.declared.transfers.Conflict.{Conflict}
 use Rattle.mix_stream.specs.Stream.{AppendsFront}
 use Rattle.mix_run.specs.Print.{Run, conflict_at, counted, ended, first_of, listed, printed, printed_first, stops, written_by}
 use Rattle.mix_run.specs.PrintSteps.{StepMakes, StepNotes, StepPrints, conflicts_after, is_made}

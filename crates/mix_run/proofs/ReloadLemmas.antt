@@ -3,7 +3,8 @@ use Rattle.std.proofs.Common.{◌≡◌, ◌∙◌, ℕ, List, take, Result, Ok,
 use Rattle.std.specs.Prelude.{OnOk}
 use Rattle.mix_refused.specs.declared.refused.Refused.{Refused}
 use Rattle.mix_refused.specs.declared.refused.Refused.TheVariants as refused
-use Rattle.mixal_asm.specs.Prelude.{assembly, ProgramValue, AsmFault}
+use Rattle.mixal_asm.specs.Prelude.{assembly, ProgramValue}
+use Rattle.mixal_asm.specs.declared.fault.AsmFault.{AsmFault}
 use Rattle.mix_run.specs.Prelude.{GivesText, parts_of, Reason, Moment}
 use Rattle.mix_run.specs.Reload.{reloaded, reloaded_as}
 use Rattle.mix_run.specs.declared.opener.Unread.{Unread}

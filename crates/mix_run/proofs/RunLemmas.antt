@@ -4,15 +4,18 @@ use Rattle.std.proofs.lemmas.Bool.{eqb-true, lt-ltb, le-ltb}
 use Rattle.std.proofs.lemmas.List.{append-nil}
 pub use Rattle.std.proofs.KnownBytes.{Keeps-refl as Keeps-same}
 use Rattle.std.specs.Io.KnownBytes.{Appends}
-use Rattle.mix_session.specs.Prelude.{SessionState, opened, effect_in, after, told_of, told_of_both, Told}
+use Rattle.mix_session.specs.Prelude.{SessionState, opened, effect_in, after, told_of, told_of_both}
+use Rattle.mix_session.specs.declared.reply.Told.{Told}
 use Rattle.mix_lines.specs.Lines.{lines, lines-nil}
 use Rattle.mix_run.specs.Output.{Outcome, Meets, outcome_of, replies_of, said_of, outcome_of_script, bundle_output, output, list_output, list_outcome, status_of, TooLong, Ended}
 use Rattle.mix_stream.specs.Stream.{AppendsFront, ConsumesAtMost}
 use Rattle.mix_stream.specs.declared.counted.Failed.{Failed}
 use Rattle.mix_files.specs.Bundle.{cut_of}
 use Rattle.mix_run.specs.Prelude.{GivesUnits, fault_of_read, ToolFault}
-use Rattle.mixal_asm.specs.Prelude.{assembly, ProgramValue, AsmFault}
-use Rattle.mix_machine.specs.Prelude.{UnitsState, deck_of, DeckFault}
+use Rattle.mixal_asm.specs.Prelude.{assembly, ProgramValue}
+use Rattle.mixal_asm.specs.declared.fault.AsmFault.{AsmFault}
+use Rattle.mix_machine.specs.Prelude.{UnitsState, deck_of}
+use Rattle.mix_machine.specs.declared.units.deck_fault.DeckFault.{DeckFault}
 use Rattle.mix_run.specs.declared.fault.ToolFault.TheVariants as faults
 use Rattle.mix_refused.specs.declared.refused.Refused.{Refused as Refusal}
 use Rattle.mix_refused.specs.declared.refused.Refused.TheVariants as reads

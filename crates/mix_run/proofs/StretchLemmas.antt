@@ -1,7 +1,9 @@
 -- Stretches of a talk, one after the other: what is said of the parts holds of the whole.
 use Rattle.std.proofs.Common.{◌≡◌, ◌∙◌, ℕ, Bool, true, false, cond, List, [], ◌∷◌, ◌++◌, append_assoc, Option, refl, sym, ap, ap₂, subst}
 use Rattle.std.proofs.lemmas.List.{append-nil}
-use Rattle.mix_session.specs.Prelude.{told_of_both, Told, Accepted}
+use Rattle.mix_session.specs.declared.reply.Told.{Told}
+use Rattle.mix_session.specs.declared.reply.Told.TheVariants.{Accepted}
+use Rattle.mix_session.specs.Reply.{told_of_both}
 use Rattle.mix_stream.specs.Stream.{AppendsFront}
 use Rattle.mix_run.specs.Prelude.{Answered, Files, Saved, noted, Talker, Moment}
 use Rattle.mix_run.specs.Stretch.{Stretch, joined, silent, talk_of, typed_line}

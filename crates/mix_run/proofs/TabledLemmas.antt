@@ -3,7 +3,10 @@ use Rattle.std.proofs.Common.{◌≡◌, ◌≤◌, ◌+◌, ℕ, zero, suc, Boo
 use Rattle.std.proofs.lemmas.List.{append-nil}
 use Rattle.std.specs.Io.KnownBytes.{Appends}
 use Rattle.mixal_asm.specs.Program.{ProgramValue}
-use Rattle.mix_machine.specs.Prelude.{does, is_halt_next, WorldState, MixFault, Step, Part}
+use Rattle.mix_machine.specs.Prelude.{does, is_halt_next, WorldState}
+use Rattle.mix_machine.specs.declared.fault.MixFault.{MixFault}
+use Rattle.mix_machine.specs.declared.old.Change.TheVariants.{Step}
+use Rattle.mix_machine.specs.declared.part.Part.{Part}
 use Rattle.mix_session.specs.Change.{change_text}
 use Rattle.mix_stream.specs.Stream.{AppendsFront}
 use Rattle.mix_run.specs.Prelude.{counted, FieldValue, footer_text, header_text, row_text, rows_text, table_text, Writes, ToolFault, RunEnd, Stepped, TableFormat}

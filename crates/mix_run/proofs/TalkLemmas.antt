@@ -8,7 +8,8 @@ use Rattle.std.specs.Io.KnownBytes.{Appends, Consumes, IsAtEnd, Keeps}
 use Rattle.mix_lines.specs.Lines.{is_line_feed, lines, lines-nil, strip_line_feed, text_of_line, whole_lines, words}
 use Rattle.std.specs.Str.Lines.{strip_carriage_return}
 use Rattle.std.proofs.lemmas.Bool.{lt-ltb, or_parts}
-use Rattle.mix_session.specs.Prelude.{SessionState, effect_in, after, reply_of, told_of, told_of_both, Told}
+use Rattle.mix_session.specs.Prelude.{SessionState, effect_in, after, reply_of, told_of, told_of_both}
+use Rattle.mix_session.specs.declared.reply.Told.{Told}
 use Rattle.mix_stream.specs.Stream.{AppendsFront}
 use Rattle.mix_run.specs.Prelude.{replies, is_too_long, is_whole, max_line_bytes, Talker}
 use Rattle.mix_run.specs.Opening.{Saved, noted, noted_one}

@@ -2,13 +2,16 @@
 use Rattle.std.proofs.Common.{◌≡◌, ◌∙◌, ◌+◌, ◌<◌, ◌≤◌, ℕ, false, List, [], ◌∷◌, ◌++◌, length, Option, Some, Result, Ok, Err, refl, sym, ap, ap₂, subst, arith, inr}
 use Rattle.std.proofs.lemmas.Bool.{le-ltb}
 use Rattle.mix_lines.specs.Lines.{lines}
-use Rattle.mixal_asm.specs.Prelude.{assembly, ProgramValue, AsmFault}
-use Rattle.mix_machine.specs.Prelude.{UnitsState, DeckFault, deck_of}
+use Rattle.mixal_asm.specs.Prelude.{assembly, ProgramValue}
+use Rattle.mixal_asm.specs.declared.fault.AsmFault.{AsmFault}
+use Rattle.mix_machine.specs.Prelude.{UnitsState, deck_of}
+use Rattle.mix_machine.specs.declared.units.deck_fault.DeckFault.{DeckFault}
 use Rattle.mix_refused.specs.declared.refused.Refused.{Refused as Refusal}
 use Rattle.mix_refused.specs.declared.refused.Refused.TheVariants as reads
 use Rattle.mix_stream.specs.declared.counted.Failed.{Failed}
 use Rattle.mix_stream.specs.Stream.{AppendsFront, CountsFailure}
-use Rattle.mix_session.specs.Prelude.{SessionState, effect_in, after, reply_of, told_of, told_of_both, Told}
+use Rattle.mix_session.specs.Prelude.{SessionState, effect_in, after, reply_of, told_of, told_of_both}
+use Rattle.mix_session.specs.declared.reply.Told.{Told}
 use Rattle.std.proofs.lemmas.List.{append-nil}
 use Rattle.mix_run.specs.Prelude.{fault_of_read, ToolFault, begun, talk_of, GivesUnits, Talker, Moment, Program, Files, Saved, noted}
 use Rattle.mix_run.specs.declared.fault.ToolFault.TheVariants as faults

@@ -2,7 +2,12 @@
 use Rattle.std.specs.Prelude.{ℕ, zero, suc, ◌+◌, ◌==◌, List, [], ◌∷◌, ◌++◌, codes, Option, Some, None, Result, Ok, Err, if◌then◌else◌, min}
 use Rattle.mix_formula.specs.Names.{NameValue}
 use Rattle.mixal_asm.specs.Program.{ProgramValue}
-use Rattle.mix_session.specs.Prelude.{Effect, after, effect_of_run, tally_at, SessionState, no_stops, Timeline, world_of, Answer, Refusal, BadArgument, End, Tally}
+use Rattle.mix_session.specs.Prelude.{Effect, after, effect_of_run, tally_at, SessionState, no_stops, Timeline, world_of}
+use Rattle.mix_session.specs.declared.answer.Answer.{Answer}
+use Rattle.mix_session.specs.declared.fault.Refusal.{Refusal}
+use Rattle.mix_session.specs.declared.fault.Refusal.TheVariants.{BadArgument}
+use Rattle.mix_session.specs.declared.reply.End.{End}
+use Rattle.mix_session.specs.declared.tally.Tally.{Tally}
 use Rattle.mix_session.specs.declared.answer.Answer.TheVariants as answers
 use Rattle.mix_session.specs.declared.command.stops.Way.TheVariants as way
 use Rattle.mix_session.specs.declared.reply.End.TheVariants as ends

@@ -2,7 +2,8 @@
 use Rattle.std.specs.Prelude.{◌≡◌, Bool, true, false, List, ℕ, [], Option, Result, Ok, Err}
 use Rattle.mixal_asm.specs.Program.{ProgramValue}
 use Rattle.mix_machine.specs.units.Units.{UnitsState}
-use Rattle.mix_session.specs.Prelude.{opened, Refusal}
+use Rattle.mix_session.specs.declared.fault.Refusal.{Refusal}
+use Rattle.mix_session.specs.Session.{opened}
 use Rattle.mix_run.specs.Counted.{EndTableValue, end_table_asked}
 use Rattle.mix_run.specs.Opening.{is_picture}
 use Rattle.mix_run.specs.StepTable.{step_table}

@@ -3,7 +3,9 @@ use Rattle.std.specs.Prelude.{ℕ, ◌==◌, ◌||◌, Bool, not, nat_lt, List, 
 use Rattle.std.specs.Fmt.{decimal}
 use Rattle.std.specs.List.{range_with_len}
 use Rattle.mix_word.specs.Prelude.{unit_count, WordValue}
-use Rattle.mix_machine.specs.Prelude.{WorldState, unit_at, UnitState, kind_of, UnitKind, Tape, Disk, CardReader, CardPunch, Printer, Typewriter, PaperTape}
+use Rattle.mix_machine.specs.Prelude.{WorldState, unit_at, UnitState, kind_of}
+use Rattle.mix_machine.specs.declared.units.kind.UnitKind.{UnitKind}
+use Rattle.mix_machine.specs.declared.units.kind.UnitKind.TheVariants.{Tape, Disk, CardReader, CardPunch, Printer, Typewriter, PaperTape}
 use Rattle.mix_session.specs.ShowUnit.{block_text}
 use Rattle.mix_run.specs.Print.{printed_line}
 

@@ -1,11 +1,14 @@
 -- What the tool writes and the status with which it ends: a function of the source, the deck and the script.
 use Rattle.std.specs.Prelude.{◌≡◌, ◌≢◌, ◌≤◌, ℕ, Bool, true, false, Option, List, [], ◌∷◌, ◌++◌, Result, Ok, Err, length, nat_lt, if◌then◌else◌}
 use Rattle.std.specs.Io.KnownBytes.{Appends, Keeps}
-use Rattle.mixal_asm.specs.Prelude.{assembly, asm_fault_line, listing, ProgramValue, AsmFault}
-use Rattle.mix_session.specs.Prelude.{SessionState, opened, effect_in, after, reply_of, told_of, told_of_both, Told}
+use Rattle.mixal_asm.specs.Prelude.{assembly, asm_fault_line, listing, ProgramValue}
+use Rattle.mixal_asm.specs.declared.fault.AsmFault.{AsmFault}
+use Rattle.mix_session.specs.Prelude.{SessionState, opened, effect_in, after, reply_of, told_of, told_of_both}
+use Rattle.mix_session.specs.declared.reply.Told.{Told}
 pub use Rattle.mix_files.specs.Bundle.{max_bundle_bytes}
 use Rattle.mix_files.specs.Bundle.{cut_of}
-use Rattle.mix_machine.specs.Prelude.{UnitsState, deck_of, DeckFault}
+use Rattle.mix_machine.specs.Prelude.{UnitsState, deck_of}
+use Rattle.mix_machine.specs.declared.units.deck_fault.DeckFault.{DeckFault}
 use Rattle.mix_lines.specs.Lines.{lines}
 use Rattle.mix_stream.specs.Stream.{AppendsFront}
 use Rattle.mix_run.specs.declared.fault.ToolFault.{ToolFault}

@@ -7,9 +7,14 @@ use Rattle.std.specs.Result.{result_ok}
 use Rattle.std.specs.Str.{str_eq_ignore_ascii_case}
 use Rattle.mix_lines.specs.Lines.{lines, words}
 use Rattle.mix_word.specs.declared.register.Reg.TheVariants as reg
-use Rattle.mix_machine.specs.Prelude.{register_of, Change}
+use Rattle.mix_machine.specs.declared.old.Change.{Change}
+use Rattle.mix_machine.specs.World.{register_of}
 use Rattle.mix_machine.specs.declared.old.Change.TheVariants as change
-use Rattle.mix_session.specs.Prelude.{condition_at, SessionState, request_in, world_of, Condition, Alters, At, Conflicts, Refusal, Request}
+use Rattle.mix_session.specs.Prelude.{condition_at, SessionState, request_in, world_of}
+use Rattle.mix_session.specs.declared.condition.Condition.{Condition}
+use Rattle.mix_session.specs.declared.condition.Condition.TheVariants.{Alters, At, Conflicts}
+use Rattle.mix_session.specs.declared.fault.Refusal.{Refusal}
+use Rattle.mix_session.specs.declared.request.Request.{Request}
 use Rattle.mix_session.specs.declared.request.Request.TheVariants as ask
 use Rattle.mix_run.specs.declared.talk.asked.Point.{Point}
 use Rattle.mix_run.specs.declared.talk.asked.Point.TheVariants as point

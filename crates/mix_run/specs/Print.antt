@@ -3,7 +3,10 @@
 use Rattle.std.specs.Prelude.{ℕ, zero, suc, Bool, ◌+◌, ◌==◌, nat_lt, List, [], ◌∷◌, ◌++◌, length, drop, reverse, flat_map, Option, Some, None, option_map, Result, Ok, Err, if◌then◌else◌}
 use Rattle.mixal_asm.specs.Prelude.{SourceValue, Line, OfLiteral, OfName, ProgramValue, source_at}
 use Rattle.mix_word.specs.Word.{WordValue}
-use Rattle.mix_machine.specs.Prelude.{does, is_halt_next, TransfersState, conflict_of, no_transfers, transfers_after, WorldState, unit_at, RowState, UnitState, MixFault, Step, Conflict}
+use Rattle.mix_machine.specs.Prelude.{does, is_halt_next, TransfersState, conflict_of, no_transfers, transfers_after, WorldState, unit_at, RowState, UnitState}
+use Rattle.mix_machine.specs.declared.fault.MixFault.{MixFault}
+use Rattle.mix_machine.specs.declared.old.Change.TheVariants.{Step}
+use Rattle.mix_machine.specs.declared.transfers.Conflict.{Conflict}
 use Rattle.mix_session.specs.Prelude.{change_line, characters_text}
 use Rattle.mix_session.specs.Show.{registers_text}
 use Rattle.mix_run.specs.declared.print.options.PrintOptions.{PrintOptions}

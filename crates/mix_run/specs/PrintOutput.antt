@@ -1,7 +1,8 @@
 -- What a run of a program writes, answers and keeps: a function of the program, its units, and what is asked for.
 use Rattle.std.specs.Prelude.{◌≡◌, ℕ, Option, None, Some, option_and_then, List, [], Result, Ok, Err}
 use Rattle.mixal_asm.specs.Program.{ProgramValue}
-use Rattle.mix_machine.specs.Prelude.{loaded, WorldState, UnitsState, DeckFault}
+use Rattle.mix_machine.specs.Prelude.{loaded, WorldState, UnitsState}
+use Rattle.mix_machine.specs.declared.units.deck_fault.DeckFault.{DeckFault}
 use Rattle.mix_run.specs.declared.fault.ToolFault.{ToolFault}
 unfoldable pub use Rattle.mix_files.specs.Bundle.{parts_of}
 use Rattle.mix_run.specs.Counted.{EndTableValue, counted_run, end_table_asked}
@@ -17,7 +18,8 @@ use Rattle.mix_run.specs.declared.print.options.PrintOptions.{PrintOptions}
 use Rattle.mix_run.specs.declared.print.steps.RunEnd.{RunEnd}
 use Rattle.mix_run.specs.declared.print.tabled.StepTable.{StepTable}
 use Rattle.mix_run.specs.declared.print.watch.Conflicts.{Conflicts}
-use Rattle.mix_session.specs.Prelude.{opened, Refusal}
+use Rattle.mix_session.specs.declared.fault.Refusal.{Refusal}
+use Rattle.mix_session.specs.Session.{opened}
 
 -- how a run ends: with these bytes, this answer and this deck, or, with no byte written, for its deck or a text of a unit
 pub data PrintOutcome : Type 0 where

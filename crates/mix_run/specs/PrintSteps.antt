@@ -1,7 +1,10 @@
 -- What the function of one step says.
 use Rattle.std.specs.Prelude.{◌≡◌, ◌+◌, ℕ, Bool, true, false, List, [], ◌++◌, length, option_map, Option, Some, None, Result, Ok, Err}
 use Rattle.std.specs.Option.{option_or}
-use Rattle.mix_machine.specs.Prelude.{does, is_halt_next, TransfersState, conflict_of, transfer_by, transfers_after, Conflict, WorldState, unit_at, MixFault, Step}
+use Rattle.mix_machine.specs.Prelude.{does, is_halt_next, TransfersState, conflict_of, transfer_by, transfers_after, WorldState, unit_at}
+use Rattle.mix_machine.specs.declared.transfers.Conflict.{Conflict}
+use Rattle.mix_machine.specs.declared.fault.MixFault.{MixFault}
+use Rattle.mix_machine.specs.declared.old.Change.TheVariants.{Step}
 use Rattle.mix_run.specs.Print.{conflict_at, first_of, if_asked, listed, printed_from, traced_line, written_by}
 use Rattle.mix_run.specs.declared.print.options.PrintOptions.{PrintOptions}
 use Rattle.mix_run.specs.declared.print.options.UnitSet.{UnitSet}

@@ -1,7 +1,9 @@
 -- What a talk recalls of a person's lines, and the lines of a script that the next one then stands for.
 use Rattle.std.specs.Prelude.{ℕ, ◌||◌, List, [], ◌∷◌, ◌++◌, codes, is_ok, is_some, Option, None, Some, Result, Ok, Err, if◌then◌else◌}
 use Rattle.mix_lines.specs.Lines.{lines, words}
-use Rattle.mix_session.specs.Prelude.{names_of, SessionState, request_in, Refusal, Request}
+use Rattle.mix_session.specs.Prelude.{names_of, SessionState, request_in}
+use Rattle.mix_session.specs.declared.fault.Refusal.{Refusal}
+use Rattle.mix_session.specs.declared.request.Request.{Request}
 use Rattle.mix_session.specs.declared.request.Request.TheVariants as ask
 use Rattle.mix_person.specs.Aside.{is_aside, part_in}
 use Rattle.mix_person.specs.Person.{kind_of, person_line, watched_in, condition_in}

@@ -1,8 +1,10 @@
 -- What a person reloads: the file of the source is read again, and in the machine that it loads all is done again that was done so far.
 use Rattle.std.specs.Prelude.{ℕ, List, Result, Ok, Err}
 use Rattle.mix_lines.specs.Lines.{lines}
-use Rattle.mixal_asm.specs.Prelude.{assembly, ProgramValue, AsmFault}
-use Rattle.mix_machine.specs.Prelude.{UnitsState, deck_of, DeckFault}
+use Rattle.mixal_asm.specs.Prelude.{assembly, ProgramValue}
+use Rattle.mixal_asm.specs.declared.fault.AsmFault.{AsmFault}
+use Rattle.mix_machine.specs.Prelude.{UnitsState, deck_of}
+use Rattle.mix_machine.specs.declared.units.deck_fault.DeckFault.{DeckFault}
 use Rattle.mix_session.specs.Session.{SessionState, opened}
 use Rattle.mix_run.specs.Asked.{after_lines}
 use Rattle.mix_run.specs.Bundle.{OriginValue}

@@ -3,9 +3,17 @@ use Rattle.std.specs.Prelude.{◌≡◌, ℕ, zero, suc, Bool, true, false, ◌+
 use Rattle.mixal_asm.specs.Program.{ProgramValue}
 use Rattle.mix_word.specs.declared.register.Reg.{Reg}
 use Rattle.mix_word.specs.declared.register.Reg.TheVariants.{A, X, I1, I2, I3, I4, I5, I6, J}
-use Rattle.mix_machine.specs.Prelude.{does, is_halt_next, is_altered, mark_of, WorldState, register_of, MixFault, Step, Mark, Part}
+use Rattle.mix_machine.specs.Prelude.{does, is_halt_next, is_altered, mark_of, WorldState, register_of}
+use Rattle.mix_machine.specs.declared.fault.MixFault.{MixFault}
+use Rattle.mix_machine.specs.declared.old.Change.TheVariants.{Step}
+use Rattle.mix_machine.specs.declared.part.Mark.{Mark}
+use Rattle.mix_machine.specs.declared.part.Part.{Part}
 use Rattle.mix_machine.specs.declared.part.Mark.TheVariants as mark
-use Rattle.mix_session.specs.Prelude.{change_text, condition_at, indicator_name, toggle_name, SessionState, Condition, Alters, At, Conflicts, Refusal, BadArgument}
+use Rattle.mix_session.specs.Prelude.{change_text, condition_at, indicator_name, toggle_name, SessionState}
+use Rattle.mix_session.specs.declared.condition.Condition.{Condition}
+use Rattle.mix_session.specs.declared.condition.Condition.TheVariants.{Alters, At, Conflicts}
+use Rattle.mix_session.specs.declared.fault.Refusal.{Refusal}
+use Rattle.mix_session.specs.declared.fault.Refusal.TheVariants.{BadArgument}
 use Rattle.mix_run.specs.Counted.{number_or}
 use Rattle.mix_run.specs.Print.{Run, line_at, run_of}
 use Rattle.mix_run.specs.Table.{FieldValue, Text, rows_text, signed, table_text, unsigned}

@@ -1,6 +1,8 @@
 -- What the typed lines of a talk do, one after the other.
 use Rattle.std.specs.Prelude.{ℕ, Bool, false, List, [], ◌∷◌, ◌++◌, if◌then◌else◌}
-use Rattle.mix_session.specs.Prelude.{told_of_both, Told, Accepted}
+use Rattle.mix_session.specs.declared.reply.Told.{Told}
+use Rattle.mix_session.specs.declared.reply.Told.TheVariants.{Accepted}
+use Rattle.mix_session.specs.Reply.{told_of_both}
 use Rattle.mix_run.specs.Asked.{after_lines, answers, asked, is_over, recalled_all}
 use Rattle.mix_run.specs.Opening.{Files, Saved}
 use Rattle.mix_run.specs.Reload.{moment_of, reloaded}

@@ -4,7 +4,9 @@ use Rattle.std.specs.Fmt.{decimal}
 use Rattle.csv.specs.Writing.{default_writer, row_text as csv_text}
 use Rattle.json.specs.Print.{print}
 use Rattle.json.specs.Token.{Token, begin_object, end_object, key, null, number, string}
-use Rattle.mix_word.specs.Prelude.{signed_text, WordValue, Sign, Plus, Minus}
+use Rattle.mix_word.specs.Prelude.{signed_text, WordValue}
+use Rattle.mix_word.specs.declared.word.Sign.{Sign}
+use Rattle.mix_word.specs.declared.word.Sign.TheVariants.{Plus, Minus}
 use Rattle.mix_run.specs.declared.table.field.Kind.{Kind}
 use Rattle.mix_run.specs.declared.table.field.Kind.TheVariants as kind
 use Rattle.mix_run.specs.declared.table.TableFormat.{TableFormat}

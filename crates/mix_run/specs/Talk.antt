@@ -3,8 +3,10 @@ use Rattle.std.specs.Prelude.{◌≡◌, Bool, true, false, ℕ, List, [], ◌�
 use Rattle.std.specs.List.{list_any}
 use Rattle.std.specs.Io.KnownBytes.{Appends}
 use Rattle.mix_lines.specs.Lines.{is_line_feed, lines}
-use Rattle.mixal_asm.specs.Prelude.{assembly, ProgramValue, AsmFault}
-use Rattle.mix_machine.specs.Prelude.{UnitsState, deck_of, DeckFault}
+use Rattle.mixal_asm.specs.Prelude.{assembly, ProgramValue}
+use Rattle.mixal_asm.specs.declared.fault.AsmFault.{AsmFault}
+use Rattle.mix_machine.specs.Prelude.{UnitsState, deck_of}
+use Rattle.mix_machine.specs.declared.units.deck_fault.DeckFault.{DeckFault}
 use Rattle.mix_run.specs.declared.fault.ToolFault.{ToolFault}
 use Rattle.mix_run.specs.declared.fault.ToolFault.TheVariants as faults
 use Rattle.mix_session.specs.declared.reply.Told.{Told}

@@ -1,6 +1,7 @@
 -- What the reading of units answers: the units of a deck or of cards, or why there are none.
 use Rattle.std.specs.Prelude.{◌≡◌, ⊤, ℕ, Bool, List, Result, Ok, Err, if◌then◌else◌}
-use Rattle.mix_machine.specs.Prelude.{UnitsState, DeckFault}
+use Rattle.mix_machine.specs.declared.units.deck_fault.DeckFault.{DeckFault}
+use Rattle.mix_machine.specs.units.Units.{UnitsState}
 use Rattle.mix_run.specs.declared.fault.ToolFault.{ToolFault}
 use Rattle.mix_run.specs.declared.fault.ToolFault.TheVariants as faults
 use Rattle.mix_run.specs.declared.units.Deck.{Deck}

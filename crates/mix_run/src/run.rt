@@ -2,8 +2,10 @@
 
 ghost use Rattle.std.specs.Prelude.{◌≡◌, ◌⊎◌, drop, ◌≢◌, ◌<◌, ◌≤◌, ◌+◌, ◌-◌, ◌^◌, ℕ, List, Some, Ok, Err, IfOk, false, true};
 ghost use Rattle.std.specs.Io.KnownBytes.{Keeps};
-ghost use Rattle.mixal_asm.specs.Prelude.{AsmFault, assembly};
-ghost use Rattle.mix_machine.specs.Prelude.{DeckFault, deck_of, max_deck_bytes};
+ghost use Rattle.mixal_asm.specs.declared.fault.AsmFault.{AsmFault};
+ghost use Rattle.mixal_asm.specs.Assembly.{assembly};
+ghost use Rattle.mix_machine.specs.declared.units.deck_fault.DeckFault.{DeckFault};
+ghost use Rattle.mix_machine.specs.units.deck.Deck.{deck_of, max_deck_bytes};
 ghost use Rattle.mix_session.specs.Session.{opened};
 ghost use Rattle.mix_run.specs.Prelude.{debug_output, Meets, IsStatus, max_bundle_bytes, outcome_of_script, max_script_bytes, parts_of, deck_given};
 ghost use Rattle.mix_stream.specs.Stream.{ConsumesAtMost, CountsFailure};

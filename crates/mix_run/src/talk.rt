@@ -1,8 +1,10 @@
 //! A talk with the program of a source: each line is a command, which is done and answered before the next is read.
 
 ghost use Rattle.std.specs.Prelude.{◌≡◌, ◌≢◌, ◌⊎◌, ◌<◌, ◌≤◌, ◌+◌, ◌-◌, ◌^◌, ℕ, List, Some, Ok, Err, IfOk, OnOk, drop, false, length, true};
-ghost use Rattle.mixal_asm.specs.Prelude.{AsmFault, assembly, ProgramValue};
-ghost use Rattle.mix_machine.specs.Prelude.{DeckFault, deck_of, max_deck_bytes, UnitsState};
+ghost use Rattle.mixal_asm.specs.Prelude.{assembly, ProgramValue};
+ghost use Rattle.mixal_asm.specs.declared.fault.AsmFault.{AsmFault};
+ghost use Rattle.mix_machine.specs.Prelude.{deck_of, max_deck_bytes, UnitsState};
+ghost use Rattle.mix_machine.specs.declared.units.deck_fault.DeckFault.{DeckFault};
 ghost use Rattle.mix_run.specs.Prelude.{debug_output, origin_given, IsStatus, Meets, max_bundle_bytes, max_script_bytes, parts_of, deck_given, Files, noted, begun, Knows, talk_of};
 ghost use Rattle.mix_run.specs.Talk.{TalksFrom, is_too_long};
 ghost use Rattle.mix_lines.specs.Lines.{lines};

@@ -4,7 +4,9 @@ use Rattle.std.proofs.lemmas.List.{take-append-le, reverse-append, get_or_defaul
 use Rattle.std.proofs.Math.Seq.{take-append_seam, take-length}
 use Rattle.std.specs.List.{range_with_len}
 use Rattle.undo_core.specs.Replay.{replay}
-use Rattle.mix_machine.specs.Prelude.{WorldState, does, Change, Step}
+use Rattle.mix_machine.specs.Prelude.{WorldState, does}
+use Rattle.mix_machine.specs.declared.old.Change.{Change}
+use Rattle.mix_machine.specs.declared.old.Change.TheVariants.{Step}
 use Rattle.mix_session.specs.Change.{all_changes, world_at, change_at, change_line, change_line_at, chosen_line_at, is_chosen}
 use Rattle.mix_session.specs.Prelude.{texts, IsMoment, Timeline, world_of, Condition}
 use Rattle.mix_session.proofs.ConditionLemmas.{last-given}

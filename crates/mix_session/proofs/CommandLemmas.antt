@@ -3,7 +3,10 @@ use Rattle.std.proofs.Common.{◌≡◌, ℕ, zero, suc, ◌+◌, ◌<◌, ◌�
 use Rattle.std.specs.Option.{option_map, option_or}
 use Rattle.std.specs.Result.{IfErr, IsOk}
 use Rattle.std.proofs.lemmas.Bool.Decides.{nat_tests}
-use Rattle.mix_machine.specs.Prelude.{WorldState, does, Change, Step, MixFault}
+use Rattle.mix_machine.specs.Prelude.{WorldState, does}
+use Rattle.mix_machine.specs.declared.old.Change.{Change}
+use Rattle.mix_machine.specs.declared.old.Change.TheVariants.{Step}
+use Rattle.mix_machine.specs.declared.fault.MixFault.{MixFault}
 use Rattle.mix_session.specs.Prelude.{Timeline, world_of, begins_with_step, with_change, back_by, forth_by, moved_once, moved, BrokenOff, IsBefore, StopsState, has_conflict, Condition, Way, New, Again, Back, End}
 use Rattle.mix_session.specs.Command.{effect_of_run, effect_of_change, effect_of_result, refusal_effect, change_stage, count_of_run, least_below, is_met_by, move_conflicts, is_halt_done, end_there, Effect, end_of_move, end_of_last, end_of_more, end_at, fault_end, after, Begun}
 use Rattle.mix_session.specs.Stops.{is_at_stop, is_awaited}

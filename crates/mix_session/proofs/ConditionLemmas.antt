@@ -5,7 +5,12 @@ use Rattle.std.proofs.Math.Seq.{take-length}
 use Rattle.std.specs.Option.{option_and_then}
 use Rattle.std.specs.Result.{result_ok}
 use Rattle.undo_core.specs.Replay.{replay, put_back, TakesBack}
-use Rattle.mix_machine.specs.Prelude.{WorldState, IsWorld, does, IsPart, is_altered, is_same_mark, mark_of, mark_before, put_value, Old, Change, Step, Part, Mark}
+use Rattle.mix_machine.specs.Prelude.{WorldState, IsWorld, does, IsPart, is_altered, is_same_mark, mark_of, mark_before, put_value}
+use Rattle.mix_machine.specs.declared.old.Old.{Old}
+use Rattle.mix_machine.specs.declared.old.Change.{Change}
+use Rattle.mix_machine.specs.declared.old.Change.TheVariants.{Step}
+use Rattle.mix_machine.specs.declared.part.Part.{Part}
+use Rattle.mix_machine.specs.declared.part.Mark.{Mark}
 use Rattle.mix_session.specs.Prelude.{is_met_by, is_reached, watched, is_met, is_conflict, last_conflicts, has_conflict, Tells, Timeline, world_of, back_by, Back, Condition, Alters, At, Conflicts}
 
 -- a change alters a part exactly where it alters its mark

@@ -2,7 +2,10 @@
 use Rattle.std.proofs.Common.{◌≡◌, ℕ, suc, ◌+◌, ◌-◌, ◌<◌, List, [], ◌∷◌, ◌++◌, length, take, get_or, Option, None, Some, refl, sym, ap, ◌∙◌, arith, add-one, append_assoc}
 use Rattle.std.proofs.lemmas.List.{get_or_default}
 use Rattle.undo_core.specs.Replay.{replay}
-use Rattle.mix_machine.specs.Prelude.{WorldState, does, TransfersState, transfers_after, conflict_of, Change, Step, Conflict}
+use Rattle.mix_machine.specs.Prelude.{WorldState, does, TransfersState, transfers_after, conflict_of}
+use Rattle.mix_machine.specs.declared.old.Change.{Change}
+use Rattle.mix_machine.specs.declared.old.Change.TheVariants.{Step}
+use Rattle.mix_machine.specs.declared.transfers.Conflict.{Conflict}
 use Rattle.mix_session.specs.Change.{world_at, change_at, change_front}
 use Rattle.mix_session.specs.Prelude.{transfers_at, conflict_at, conflict_column, conflict_line_at, texts, Timeline}
 use Rattle.mix_session.proofs.ChangeLemmas.{world_at-is}

@@ -3,7 +3,10 @@ use Rattle.std.proofs.Common.{◌≡◌, ◌+◌, ◌-◌, ◌<◌, ◌≤◌, �
 use Rattle.std.specs.Option.{IfSome, option_map, option_or}
 use Rattle.std.specs.Result.{IsOk}
 use Rattle.undo_core.specs.Replay.{replay}
-use Rattle.mix_machine.specs.Prelude.{WorldState, does, is_plain_next, Step, Mark, ends_at, Many}
+use Rattle.mix_machine.specs.Prelude.{WorldState, does, is_plain_next, ends_at}
+use Rattle.mix_machine.specs.declared.old.Change.TheVariants.{Step}
+use Rattle.mix_machine.specs.declared.part.Mark.{Mark}
+use Rattle.mix_machine.specs.declared.many.Many.{Many}
 use Rattle.mix_session.specs.Prelude.{IsBefore, effect_of_run, end_of_last, end_at, end_there, fault_end, is_halt_done, KnownState, Knows, LooksOn, has_conflict, StopsState, Timeline, world_of, with_change, moved, Way, New, Again, Back, End, Until}
 use Rattle.mix_session.specs.Marks.{AreMarks, HasMoved, IsMove, end_by_marks, first_met}
 use Rattle.mix_session.specs.Plain.{AllowsMany, ArePlain, AreSteps, HasEnd, IsLeft, LeavesOff}

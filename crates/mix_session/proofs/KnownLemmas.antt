@@ -7,7 +7,10 @@ use Rattle.std.proofs.Math.Seq.{take-append_seam, get_or-append_seam}
 use Rattle.std.specs.Result.{IfOk}
 use Rattle.mix_refused.specs.declared.refused.Memory.{Memory}
 use Rattle.undo_core.specs.Replay.{replay}
-use Rattle.mix_machine.specs.Prelude.{WorldState, does, TransfersState, transfers_after, conflict_of, Change, Step, Conflict}
+use Rattle.mix_machine.specs.Prelude.{WorldState, does, TransfersState, transfers_after, conflict_of}
+use Rattle.mix_machine.specs.declared.old.Change.{Change}
+use Rattle.mix_machine.specs.declared.old.Change.TheVariants.{Step}
+use Rattle.mix_machine.specs.declared.transfers.Conflict.{Conflict}
 use Rattle.mix_session.specs.Prelude.{world_at, change_at, least_below, move_conflicts, end_of_more, is_conflict, transfers_at, conflict_at, last_conflicts, Timeline, world_of, back_by, forth_by, with_change, begins_with_step, moved_once, Way, New, Again, Back, Condition}
 use Rattle.mix_session.specs.Known.{KnownState, has_conflict, IsLast, IsKnown, Knows, LooksAt, LooksOn, Tells}
 use Rattle.mix_session.specs.declared.reply.End.TheVariants.{Start}

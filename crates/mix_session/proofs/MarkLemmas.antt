@@ -3,9 +3,15 @@ use Rattle.std.proofs.Common.{◌≡◌, ◌+◌, ◌∙◌, ℕ, zero, suc, Boo
 use Rattle.std.specs.Bool.{beq}
 use Rattle.std.specs.Cmp.{unsigned_Decides}
 use Rattle.std.proofs.lemmas.Bool.{and_parts}
-use Rattle.mix_word.specs.Prelude.{WordValue, word, is_same_sign, is_same_word, Sign, Plus, Minus, Cmp}
+use Rattle.mix_word.specs.declared.word.Sign.{Sign}
+use Rattle.mix_word.specs.declared.word.Sign.TheVariants.{Plus, Minus}
+use Rattle.mix_word.specs.declared.word.Cmp.{Cmp}
+use Rattle.mix_word.specs.Word.{WordValue, word, is_same_sign, is_same_word}
 use Rattle.mix_word.specs.declared.word.Cmp.TheVariants.{Less, Equal, Greater}
-use Rattle.mix_machine.specs.Prelude.{WorldState, IsWorld, does, IsReal, is_same_indicator, is_same_mark, mark_of, Change, Step, Mark}
+use Rattle.mix_machine.specs.Prelude.{WorldState, IsWorld, does, IsReal, is_same_indicator, is_same_mark, mark_of}
+use Rattle.mix_machine.specs.declared.old.Change.{Change}
+use Rattle.mix_machine.specs.declared.old.Change.TheVariants.{Step}
+use Rattle.mix_machine.specs.declared.part.Mark.{Mark}
 use Rattle.mix_machine.specs.declared.part.Mark.TheVariants as mark
 use Rattle.mix_session.specs.Prelude.{watched, AreMarks, is_met_from, first_met, Condition, Alters, At, Conflicts}
 

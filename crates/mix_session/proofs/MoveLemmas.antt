@@ -5,7 +5,11 @@ use Rattle.std.proofs.Math.Seq.{take-length}
 use Rattle.std.specs.Result.{IfOk, IsOk}
 use Rattle.mix_refused.specs.declared.refused.Memory.{Memory}
 use Rattle.undo_core.specs.Prelude.{HoldsOfState, replay}
-use Rattle.mix_machine.specs.Prelude.{WorldState, does, Change, Step, MixFault, Mark}
+use Rattle.mix_machine.specs.Prelude.{WorldState, does}
+use Rattle.mix_machine.specs.declared.old.Change.{Change}
+use Rattle.mix_machine.specs.declared.old.Change.TheVariants.{Step}
+use Rattle.mix_machine.specs.declared.fault.MixFault.{MixFault}
+use Rattle.mix_machine.specs.declared.part.Mark.{Mark}
 use Rattle.mix_session.specs.Prelude.{end_of_last, fault_end, is_halt_done, move_conflicts, KnownState, Knows, LooksOn, Tells, HasMoved, AreMarks, end_by_marks, StopsState, Timeline, world_of, begins_with_step, moved, back_by, forth_by, Way, New, Again, Back, End}
 use Rattle.mix_session.specs.declared.reply.End.TheVariants.{Fault}
 use Rattle.mix_session.proofs.TimelineLemmas.{timeline-is, world_of-is, holds_now, back_by-none, back_by-next, first-step}

@@ -8,7 +8,10 @@ use Rattle.std.specs.Bool.{then_some}
 use Rattle.std.specs.List.{filter, list_any, range_with_len}
 use Rattle.std.specs.Option.{option_and_then}
 use Rattle.undo_core.specs.Replay.{put_back}
-use Rattle.mix_machine.specs.Prelude.{WorldState, cell_of, has_break, unit_at, put_value, set_value, fits, mark_of, mark_given, mark_before, Old, Part, Mark}
+use Rattle.mix_machine.specs.Prelude.{WorldState, cell_of, has_break, unit_at, put_value, set_value, fits, mark_of, mark_given, mark_before}
+use Rattle.mix_machine.specs.declared.old.Old.{Old}
+use Rattle.mix_machine.specs.declared.part.Part.{Part}
+use Rattle.mix_machine.specs.declared.part.Mark.{Mark}
 use Rattle.mix_machine.specs.declared.old.Old.TheVariants as old
 use Rattle.mix_machine.specs.declared.part.Part.TheVariants.{Cell, Unit as Device}
 use Rattle.mix_session.specs.Prelude.{count_of, part_of, is_altered, Cells, Breaks, Units}

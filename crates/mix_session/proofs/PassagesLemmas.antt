@@ -1,6 +1,8 @@
 -- The states found in which the machine is at a location, with those among the states that are left, are all of them.
 use Rattle.std.proofs.Common.{◌≡◌, ℕ, suc, ◌+◌, eqb, List, [], ◌++◌, length, refl, ◌∙◌, append_assoc, add-one}
-use Rattle.mix_machine.specs.Prelude.{mark_of, Mark, Loc}
+use Rattle.mix_machine.specs.declared.part.Mark.{Mark}
+use Rattle.mix_machine.specs.declared.part.Part.TheVariants.{Loc}
+use Rattle.mix_machine.specs.Part.{mark_of}
 use Rattle.mix_session.specs.Prelude.{world_at, location_in, Timeline}
 use Rattle.mix_session.specs.Passages.{passage_if, passage_at, passages_back}
 

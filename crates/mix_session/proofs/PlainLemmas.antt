@@ -5,11 +5,16 @@ use Rattle.std.proofs.lemmas.Bool.Decides.{nat_tests}
 use Rattle.std.proofs.lemmas.List.{append-nil}
 use Rattle.std.specs.Option.{option_and_then}
 use Rattle.std.specs.Result.{IsOk, OnErr, result_ok}
-use Rattle.mix_refused.specs.Prelude.{IfMemory, Refused}
+use Rattle.mix_refused.specs.declared.refused.Refused.{Refused}
+use Rattle.mix_refused.specs.Refused.{IfMemory}
 use Rattle.mix_refused.specs.declared.refused.Memory.{Memory}
 use Rattle.mix_refused.specs.declared.refused.Refused.TheVariants as refused
 use Rattle.undo_core.specs.Prelude.{HoldsOfState, Repeats, goes_unless, replay}
-use Rattle.mix_machine.specs.Prelude.{MixFault, WorldState, IsWorld, has_break, instruction, does, kept_values, IsReal, is_step, is_halt_next, is_plain_next, Change, Step, Old, steps_on}
+use Rattle.mix_machine.specs.Prelude.{WorldState, IsWorld, has_break, instruction, does, kept_values, IsReal, is_step, is_halt_next, is_plain_next, steps_on}
+use Rattle.mix_machine.specs.declared.fault.MixFault.{MixFault}
+use Rattle.mix_machine.specs.declared.old.Change.{Change}
+use Rattle.mix_machine.specs.declared.old.Change.TheVariants.{Step}
+use Rattle.mix_machine.specs.declared.old.Old.{Old}
 use Rattle.mix_session.specs.Prelude.{ArePlain, IsLeft, Timeline, world_of, with_change, is_at_break}
 use Rattle.mix_session.proofs.TimelineLemmas.{timeline-is, world_of-is}
 

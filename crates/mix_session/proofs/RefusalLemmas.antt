@@ -2,7 +2,9 @@
 use Rattle.std.proofs.Common.{◌≡◌, ◌+◌, ◌-◌, ℕ, Bool, true, false, length, ltb, Some, None, Result, Ok, Err, sym, ◌∙◌, refl}
 use Rattle.std.specs.Prelude.{IfOk, IfSome, if◌then◌else◌}
 use Rattle.mix_refused.specs.declared.refused.Memory.{Memory}
-use Rattle.mix_machine.specs.Prelude.{does, WorldState, MixFault, Change}
+use Rattle.mix_machine.specs.Prelude.{does, WorldState}
+use Rattle.mix_machine.specs.declared.fault.MixFault.{MixFault}
+use Rattle.mix_machine.specs.declared.old.Change.{Change}
 use Rattle.mix_session.specs.Prelude.{Timeline, world_of, forth_by, refusal_of, has_conflict, Answer, Request}
 use Rattle.mix_session.specs.Command.{Effect, after, at_once, taken_back, refusal_effect, sought, count_back, count_forth, effect_of, effect_of_run, effect_of_back, effect_of_forth, effect_of_forth_within, effect_of_back_until, effect_of_forth_until, effect_of_change, effect_of_result, effect_of_show, is_there, HasEffect}
 use Rattle.mix_session.specs.declared.answer.Answer.TheVariants as answers

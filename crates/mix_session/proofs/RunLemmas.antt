@@ -5,9 +5,15 @@ use Rattle.std.specs.Bool.{beq}
 use Rattle.std.proofs.lemmas.Iterator.Adapters.{position_from-zero}
 use Rattle.std.specs.List.{position_from}
 use Rattle.std.specs.Option.{option_or, option_map}
-use Rattle.mix_word.specs.Prelude.{is_same_sign, Sign, Plus, Minus, Cmp}
+use Rattle.mix_word.specs.declared.word.Sign.{Sign}
+use Rattle.mix_word.specs.declared.word.Sign.TheVariants.{Plus, Minus}
+use Rattle.mix_word.specs.declared.word.Cmp.{Cmp}
+use Rattle.mix_word.specs.Word.{is_same_sign}
 use Rattle.mix_word.specs.declared.word.Cmp.TheVariants.{Less, Equal, Greater}
-use Rattle.mix_machine.specs.Prelude.{WorldState, IsWorld, does, IsPart, is_same_indicator, is_same_mark, mark_of, Step, Part, Mark}
+use Rattle.mix_machine.specs.Prelude.{WorldState, IsWorld, does, IsPart, is_same_indicator, is_same_mark, mark_of}
+use Rattle.mix_machine.specs.declared.old.Change.TheVariants.{Step}
+use Rattle.mix_machine.specs.declared.part.Part.{Part}
+use Rattle.mix_machine.specs.declared.part.Mark.{Mark}
 use Rattle.mix_machine.specs.declared.part.Mark.TheVariants as mark
 use Rattle.mix_session.specs.Command.{is_met_by, is_halt_done, move_conflicts, end_there, end_of_move, end_of_last}
 use Rattle.mix_session.specs.Prelude.{is_reached, watched, is_met, is_conflict, has_conflict, Tells, StopsState, Timeline, world_of, moved, Way, New, Again, Back, Condition, Alters, At, Conflicts, End}

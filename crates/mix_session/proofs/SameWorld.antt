@@ -8,9 +8,13 @@ use Rattle.std.proofs.lemmas.List.Elements.{filter-append}
 use Rattle.std.specs.Bool.{Decides}
 use Rattle.std.specs.Cmp.{booleans_Decides, unsigned_Decides}
 use Rattle.std.specs.List.{filter, range_with_len}
-use Rattle.mix_word.specs.Prelude.{WordValue, word, zero_word, is_same_sign, is_same_word, unit_count, Cmp, Sign, Plus, Minus}
+use Rattle.mix_word.specs.Prelude.{WordValue, word, zero_word, is_same_sign, is_same_word, unit_count}
+use Rattle.mix_word.specs.declared.word.Cmp.{Cmp}
+use Rattle.mix_word.specs.declared.word.Sign.{Sign}
+use Rattle.mix_word.specs.declared.word.Sign.TheVariants.{Plus, Minus}
 use Rattle.mix_word.specs.declared.word.Cmp.TheVariants.{Less, Equal, Greater}
-use Rattle.mix_machine.specs.Prelude.{is_same_indicator, is_same_unit, RegistersState, WorldState, IsWorld, register_of, cell_of, has_break, unit_at, UnitState, empty_unit, Tape}
+use Rattle.mix_machine.specs.Prelude.{is_same_indicator, is_same_unit, RegistersState, WorldState, IsWorld, register_of, cell_of, has_break, unit_at, UnitState, empty_unit}
+use Rattle.mix_machine.specs.declared.units.kind.UnitKind.TheVariants.{Tape}
 use Rattle.mix_machine.specs.units.Units.{UnitsState, AreUnits}
 use Rattle.mix_session.specs.Altered.{unnumbered, count_of, part_of, numbered, with_numbered, is_altered, alterations}
 use Rattle.mix_session.specs.Prelude.{lines_text, cells_in, column_text, columns_text, Cells, Breaks, Units}

@@ -6,7 +6,8 @@ use Rattle.std.proofs.lemmas.List.Folds.{flat_map-map}
 use Rattle.std.proofs.lemmas.List.FromFn.{fill_by_all}
 use Rattle.std.specs.List.{range_with_len}
 use Rattle.std.specs.Fmt.{format_spec, styled_text, padded, char_count, take_chars}
-use Rattle.mix_word.specs.Prelude.{Reg, WordValue, name_of_register}
+use Rattle.mix_word.specs.Prelude.{WordValue, name_of_register}
+use Rattle.mix_word.specs.declared.register.Reg.{Reg}
 use Rattle.mix_word.specs.declared.register.Reg.TheVariants as reg
 use Rattle.mix_machine.specs.World.{WorldState, register_of}
 use Rattle.mix_session.specs.Each.{texts}

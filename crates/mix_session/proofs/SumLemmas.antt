@@ -8,7 +8,10 @@ use Rattle.std.specs.List.{filter}
 use Rattle.std.specs.Option.{option_and_then}
 use Rattle.std.specs.Result.{result_ok}
 use Rattle.undo_core.specs.Replay.{replay}
-use Rattle.mix_machine.specs.Prelude.{WorldState, IsWorld, does, IsReal, loaded, UnitsState, MixFault, Change, Step, SetReg, SetCell, SetLoc, SetOver, SetCmp, Break, Clear}
+use Rattle.mix_machine.specs.Prelude.{WorldState, IsWorld, does, IsReal, loaded, UnitsState}
+use Rattle.mix_machine.specs.declared.fault.MixFault.{MixFault}
+use Rattle.mix_machine.specs.declared.old.Change.{Change}
+use Rattle.mix_machine.specs.declared.old.Change.TheVariants.{Step, SetReg, SetCell, SetLoc, SetOver, SetCmp, Break, Clear}
 use Rattle.mix_word.specs.Word.{WordValue}
 use Rattle.mix_session.specs.Prelude.{world_at, change_at, Timeline, world_of}
 use Rattle.mix_session.specs.Counts.{is_step, sum_below, number_if, time_of, is_step_after, tally_at, tally_of_all}

@@ -5,7 +5,13 @@ use Rattle.std.proofs.lemmas.Bool.Decides.{nat_tests}
 use Rattle.std.proofs.Math.Seq.{take-length}
 use Rattle.std.specs.List.{range_with_len}
 use Rattle.undo_core.specs.Replay.{replay, TakesBack}
-use Rattle.mix_machine.specs.Prelude.{WorldState, IsWorld, does, IsPart, mark_of, mark_before, put_value, Change, Step, Old, Part, Loc, Clock, Mark}
+use Rattle.mix_machine.specs.Prelude.{WorldState, IsWorld, does, IsPart, mark_of, mark_before, put_value}
+use Rattle.mix_machine.specs.declared.old.Change.{Change}
+use Rattle.mix_machine.specs.declared.old.Change.TheVariants.{Step}
+use Rattle.mix_machine.specs.declared.old.Old.{Old}
+use Rattle.mix_machine.specs.declared.part.Part.{Part}
+use Rattle.mix_machine.specs.declared.part.Part.TheVariants.{Loc, Clock}
+use Rattle.mix_machine.specs.declared.part.Mark.{Mark}
 use Rattle.mixal_asm.specs.Program.{ProgramValue}
 use Rattle.mix_session.specs.Prelude.{world_at, texts, Timeline, world_of, Tally}
 use Rattle.mix_session.specs.Counts.{is_step, sum_below, number_if, time_of, is_step_after, is_step_at, tally_of, tally_at, tally_of_all, count_line, total_line, counts_text}

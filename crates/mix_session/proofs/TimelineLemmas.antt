@@ -3,7 +3,9 @@ use Rattle.std.proofs.Common.{◌≡◌, ℕ, ◌+◌, ◌-◌, ◌<◌, ◌≤�
 use Rattle.std.proofs.lemmas.List.{append-nil, take-take, take-append-drop, drop-drop, drop-append-le, length-take-le, length-drop}
 use Rattle.std.proofs.Math.Seq.{take-add, take-length, drop-length, drop-append_seam, take-append_seam}
 use Rattle.undo_core.specs.Prelude.{HoldsOfState, replay}
-use Rattle.mix_machine.specs.Prelude.{WorldState, does, Change, Step}
+use Rattle.mix_machine.specs.Prelude.{WorldState, does}
+use Rattle.mix_machine.specs.declared.old.Change.{Change}
+use Rattle.mix_machine.specs.declared.old.Change.TheVariants.{Step}
 use Rattle.mix_session.specs.Timeline.{Timeline, world_of, back_by, forth_by, begins_with_step}
 
 -- a timeline by its parts

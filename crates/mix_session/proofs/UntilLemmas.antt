@@ -7,7 +7,9 @@ use Rattle.std.specs.List.{list_any}
 use Rattle.std.specs.Result.{IsErr}
 use Rattle.mix_refused.specs.declared.refused.Memory.{Memory}
 use Rattle.undo_core.specs.Replay.{replay}
-use Rattle.mix_machine.specs.Prelude.{WorldState, does, mark_of, Change, Mark}
+use Rattle.mix_machine.specs.Prelude.{WorldState, does, mark_of}
+use Rattle.mix_machine.specs.declared.old.Change.{Change}
+use Rattle.mix_machine.specs.declared.part.Mark.{Mark}
 use Rattle.mix_session.specs.Command.{is_met_by, is_reached_back, is_reached_forth, count_back, count_forth, effect_of_back_until, effect_of_forth_until, least_below, refusal_effect, taken_back, sought, Effect, Begun, HasEffect}
 use Rattle.mix_session.specs.Prelude.{IsBefore, is_reached, watched, last_conflicts, has_conflict, Tells, AreMarks, first_met, is_met_from, Timeline, world_of, back_by, forth_by, Answer, Again, Back, Condition}
 use Rattle.mix_session.specs.declared.answer.Answer.TheVariants.{BackUntil, ForthUntil, Refused}

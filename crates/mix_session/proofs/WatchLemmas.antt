@@ -3,7 +3,9 @@ use Rattle.std.proofs.Common.{◌≡◌, ◌≢◌, ◌<◌, ◌==◌, ◌&&◌,
 use Rattle.std.proofs.lemmas.Bool.{and_parts}
 use Rattle.std.proofs.lemmas.Bool.Decides.{nat_tests}
 use Rattle.std.specs.List.{list_any}
-use Rattle.mix_machine.specs.Prelude.{WorldState, has_break, instruction, is_plain_next, is_looked_at, is_same_mark, mark_of, Mark, ends_at, Many}
+use Rattle.mix_machine.specs.Prelude.{WorldState, has_break, instruction, is_plain_next, is_looked_at, is_same_mark, mark_of, ends_at}
+use Rattle.mix_machine.specs.declared.part.Mark.{Mark}
+use Rattle.mix_machine.specs.declared.many.Many.{Many}
 use Rattle.mix_machine.specs.Watch.{WatchState, is_other, is_there, stops_at, with_all, with_location}
 use Rattle.mix_session.specs.Prelude.{end_there, has_conflict, first_met, StopsState, is_awaited, is_at_break, New, Condition, Alters, At}
 use Rattle.mix_session.specs.Plain.{AllowsMany, breaks_of, locations_of, watch_for}

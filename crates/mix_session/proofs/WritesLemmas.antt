@@ -2,7 +2,9 @@
 use Rattle.std.proofs.Common.{◌≡◌, ℕ, suc, ◌<◌, ◌≤◌, Bool, true, false, not, List, ◌++◌, length, refl, ◌∙◌, arith, min, append_assoc, add-one}
 use Rattle.std.proofs.lemmas.List.{append-nil, length-append}
 use Rattle.std.proofs.Math.Nat.{min-eq_left, min-eq_right}
-use Rattle.mix_machine.specs.Prelude.{IsPart, is_altered, is_same_mark, Part, Mark}
+use Rattle.mix_machine.specs.declared.part.Part.{Part}
+use Rattle.mix_machine.specs.declared.part.Mark.{Mark}
+use Rattle.mix_machine.specs.Part.{IsPart, is_altered, is_same_mark}
 use Rattle.mix_session.specs.Prelude.{world_at, Timeline}
 use Rattle.mix_session.specs.Writes.{write_if, write_after, writes_back}
 use Rattle.mix_session.specs.declared.writes.Write.{Write}

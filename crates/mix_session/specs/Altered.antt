@@ -5,7 +5,9 @@ use Rattle.std.specs.Bool.{beq}
 use Rattle.std.specs.Cmp.Lexicographic.{pointwise}
 use Rattle.std.specs.List.{filter, range_with_len}
 use Rattle.mix_word.specs.Prelude.{is_same_word, all_registers, unit_count}
-use Rattle.mix_machine.specs.Prelude.{WorldState, register_of, cell_of, has_break, unit_at, is_same_indicator, is_same_unit, Change, Step}
+use Rattle.mix_machine.specs.Prelude.{WorldState, register_of, cell_of, has_break, unit_at, is_same_indicator, is_same_unit}
+use Rattle.mix_machine.specs.declared.old.Change.{Change}
+use Rattle.mix_machine.specs.declared.old.Change.TheVariants.{Step}
 use Rattle.mix_machine.specs.units.Unit.{UnitState, block_of}
 use Rattle.mix_session.specs.declared.altered.Altered.{Altered}
 use Rattle.mix_session.specs.declared.altered.Altered.TheVariants as part

@@ -3,7 +3,9 @@ use Rattle.std.specs.Prelude.{ℕ, ◌+◌, ◌-◌, List, [], ◌∷◌, ◌++�
 use Rattle.std.specs.Fmt.{decimal}
 use Rattle.undo_core.specs.Replay.{replay}
 use Rattle.mix_word.specs.Prelude.{instruction_text, name_of_register, location_text}
-use Rattle.mix_machine.specs.Prelude.{WorldState, cell_of, does, Change, Step, SetReg, SetCell, SetLoc, SetOver, SetCmp, Break, Clear}
+use Rattle.mix_machine.specs.Prelude.{WorldState, cell_of, does}
+use Rattle.mix_machine.specs.declared.old.Change.{Change}
+use Rattle.mix_machine.specs.declared.old.Change.TheVariants.{Step, SetReg, SetCell, SetLoc, SetOver, SetCmp, Break, Clear}
 use Rattle.mix_session.specs.Altered.{altered_by}
 use Rattle.mix_session.specs.Condition.{is_reached}
 use Rattle.mix_session.specs.Columns.{left_in, right_in}

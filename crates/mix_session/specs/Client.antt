@@ -3,7 +3,9 @@
 use Rattle.std.specs.Prelude.{ℕ, zero, suc, ◌+◌, List, length, Option, None, Result, nat_lt, slice_get, if◌then◌else◌}
 use Rattle.mix_lines.specs.Lines.{words}
 use Rattle.mix_word.specs.Word.{plus}
-use Rattle.mix_machine.specs.Prelude.{Change, Part, Conflict}
+use Rattle.mix_machine.specs.declared.old.Change.{Change}
+use Rattle.mix_machine.specs.declared.part.Part.{Part}
+use Rattle.mix_machine.specs.declared.transfers.Conflict.{Conflict}
 use Rattle.mix_session.specs.Change.{all_changes}
 use Rattle.mix_session.specs.Conflicts.{conflict_at}
 use Rattle.mix_session.specs.Names.{names_of}

@@ -6,7 +6,10 @@ use Rattle.std.specs.Option.{option_map, option_or}
 use Rattle.mix_refused.specs.declared.refused.Memory.{Memory}
 use Rattle.mix_word.specs.Word.{plus}
 use Rattle.mixal_asm.specs.Program.{ProgramValue}
-use Rattle.mix_machine.specs.Prelude.{WorldState, does, is_halt_next, Change, Step, MixFault}
+use Rattle.mix_machine.specs.Prelude.{WorldState, does, is_halt_next}
+use Rattle.mix_machine.specs.declared.old.Change.{Change}
+use Rattle.mix_machine.specs.declared.old.Change.TheVariants.{Step}
+use Rattle.mix_machine.specs.declared.fault.MixFault.{MixFault}
 use Rattle.mix_session.specs.Timeline.{Timeline, world_of, with_change, back_by, forth_by, moved}
 use Rattle.mix_session.specs.Stops.{StopsState, no_stops, at_breaks, at_breaks_or, is_at_stop, is_awaited}
 use Rattle.mix_session.specs.Change.{all_changes}

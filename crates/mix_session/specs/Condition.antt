@@ -1,6 +1,9 @@
 -- What a command waits for, and when it is met.
 use Rattle.std.specs.Prelude.{◌==◌, Bool, true, false, not}
-use Rattle.mix_machine.specs.Prelude.{WorldState, is_altered, is_same_mark, Part, Loc, Clock, Mark}
+use Rattle.mix_machine.specs.Prelude.{WorldState, is_altered, is_same_mark}
+use Rattle.mix_machine.specs.declared.part.Part.{Part}
+use Rattle.mix_machine.specs.declared.part.Part.TheVariants.{Loc, Clock}
+use Rattle.mix_machine.specs.declared.part.Mark.{Mark}
 use Rattle.mix_machine.specs.declared.part.Mark.TheVariants.{Location}
 use Rattle.mix_session.specs.declared.condition.Condition.{Condition}
 use Rattle.mix_session.specs.declared.condition.Condition.TheVariants.{Alters, At, Conflicts}

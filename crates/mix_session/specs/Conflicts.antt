@@ -2,7 +2,9 @@
 use Rattle.std.specs.Prelude.{ℕ, zero, suc, ◌+◌, ◌-◌, List, [], ◌∷◌, ◌++◌, codes, length, Bool, Option, None, Some, is_some}
 use Rattle.std.specs.Fmt.{decimal}
 use Rattle.mix_word.specs.Text.{location_text}
-use Rattle.mix_machine.specs.Prelude.{TransfersState, no_transfers, transfers_after, conflict_of, Conflict, UnitKind, kind_of}
+use Rattle.mix_machine.specs.Prelude.{TransfersState, no_transfers, transfers_after, conflict_of, kind_of}
+use Rattle.mix_machine.specs.declared.transfers.Conflict.{Conflict}
+use Rattle.mix_machine.specs.declared.units.kind.UnitKind.{UnitKind}
 use Rattle.mix_machine.specs.declared.transfers.Direction.{Direction}
 use Rattle.mix_machine.specs.declared.transfers.Direction.TheVariants as way
 use Rattle.mix_machine.specs.declared.units.kind.UnitKind.TheVariants as unit

@@ -2,7 +2,9 @@
 use Rattle.std.specs.Prelude.{ℕ, zero, suc, ◌+◌, ◌-◌, ◌==◌, ◌&&◌, not, Bool, true, false, List, [], ◌∷◌, ◌++◌, codes, length, Option, Some, None, if◌then◌else◌}
 use Rattle.std.specs.Fmt.{decimal}
 use Rattle.mix_word.specs.Text.{location_text}
-use Rattle.mix_machine.specs.Prelude.{WorldState, Change, Step}
+use Rattle.mix_machine.specs.declared.old.Change.{Change}
+use Rattle.mix_machine.specs.declared.old.Change.TheVariants.{Step}
+use Rattle.mix_machine.specs.World.{WorldState}
 use Rattle.mixal_asm.specs.Prelude.{SourceValue, ProgramValue, source_at, is_instruction}
 use Rattle.mix_session.specs.Change.{world_at, change_at}
 use Rattle.mix_session.specs.Columns.{right_in}

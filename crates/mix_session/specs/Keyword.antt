@@ -1,7 +1,8 @@
 -- The keywords of commands: the name of each, and the keyword that a word names.
 use Rattle.std.specs.Prelude.{ℕ, List, [], ◌∷◌, ◌++◌, map, Option, Bool, true, false, codes, find}
 use Rattle.std.specs.Str.{str_eq_ignore_ascii_case}
-use Rattle.mix_word.specs.Prelude.{all_registers, name_of_register, Cmp}
+use Rattle.mix_word.specs.declared.word.Cmp.{Cmp}
+use Rattle.mix_word.specs.Register.{all_registers, name_of_register}
 use Rattle.mix_word.specs.declared.word.Cmp.TheVariants.{Less, Equal, Greater}
 use Rattle.mix_session.specs.declared.keyword.command.CommandWord.{CommandWord}
 use Rattle.mix_session.specs.declared.keyword.command.CommandWord.TheVariants as command

@@ -2,7 +2,9 @@
 -- the changes done was the last that conflicts, for those that are taken back.
 use Rattle.std.specs.Prelude.{◌≡◌, ◌<◌, ◌≤◌, ◌==◌, ℕ, Bool, true, false, List, length, is_some}
 use Rattle.std.specs.List.{list_any}
-use Rattle.mix_machine.specs.Prelude.{TransfersState, transfers_after, conflict_of, Change, Step}
+use Rattle.mix_machine.specs.declared.old.Change.{Change}
+use Rattle.mix_machine.specs.declared.old.Change.TheVariants.{Step}
+use Rattle.mix_machine.specs.Transfers.{TransfersState, transfers_after, conflict_of}
 use Rattle.mix_session.specs.Condition.{is_conflict}
 use Rattle.mix_session.specs.Conflicts.{transfers_at, conflict_at}
 use Rattle.mix_session.specs.Timeline.{Timeline, world_of}

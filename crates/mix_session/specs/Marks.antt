@@ -2,7 +2,10 @@
 use Rattle.std.specs.Prelude.{◌≡◌, ◌+◌, ℕ, Bool, List, [], ◌∷◌, Option, Some, None, Ok, if◌then◌else◌}
 use Rattle.std.specs.Option.{option_map, option_or}
 use Rattle.undo_core.specs.Replay.{replay}
-use Rattle.mix_machine.specs.Prelude.{WorldState, IsWorld, does, IsPart, mark_of, Change, Step, Mark}
+use Rattle.mix_machine.specs.Prelude.{WorldState, IsWorld, does, IsPart, mark_of}
+use Rattle.mix_machine.specs.declared.old.Change.{Change}
+use Rattle.mix_machine.specs.declared.old.Change.TheVariants.{Step}
+use Rattle.mix_machine.specs.declared.part.Mark.{Mark}
 use Rattle.mix_session.specs.Command.{end_there, end_of_more}
 use Rattle.mix_session.specs.Timeline.{Timeline, moved_once}
 use Rattle.mix_session.specs.Condition.{watched, is_met}

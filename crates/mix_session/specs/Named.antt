@@ -1,7 +1,9 @@
 -- Which parts that have numbers a change can have altered: those that the values name which it overwrote.
 use Rattle.std.specs.Prelude.{◌≡◌, ◌<◌, ◌≤◌, ◌==◌, ◌⊎◌, ℕ, Bool, true, false, List, Option, None, Some, Ok, if◌then◌else◌}
 use Rattle.undo_core.specs.Replay.{put_back}
-use Rattle.mix_machine.specs.Prelude.{WorldState, IsWorld, does, put_value, Change, Old}
+use Rattle.mix_machine.specs.Prelude.{WorldState, IsWorld, does, put_value}
+use Rattle.mix_machine.specs.declared.old.Change.{Change}
+use Rattle.mix_machine.specs.declared.old.Old.{Old}
 use Rattle.mix_machine.specs.declared.old.Old.TheVariants as old
 use Rattle.mix_session.specs.Altered.{count_of, part_of, is_altered}
 use Rattle.mix_session.specs.declared.altered.Kind.{Kind}

@@ -2,7 +2,8 @@
 use Rattle.std.specs.Prelude.{◌==◌, ◌-◌, ℕ, ℤ, pos, negsuc, List, [], ◌∷◌, Result, Ok, Err, nat_lt, ok_or, if◌then◌else◌}
 use Rattle.mix_lines.specs.Number.{decimal_number}
 use Rattle.mix_word.specs.Prelude.{WordValue, number_of, unit_count}
-use Rattle.mixal_text.specs.Prelude.{NamesValue, whole_expression, w_value_of, Misread, ◌>>=◌}
+use Rattle.mixal_text.specs.Prelude.{NamesValue, whole_expression, w_value_of, ◌>>=◌}
+use Rattle.mixal_text.specs.declared.misread.Misread.{Misread}
 use Rattle.mix_session.specs.Keyword.{keyword_named}
 use Rattle.mix_session.specs.declared.fault.Refusal.{Refusal}
 use Rattle.mix_session.specs.declared.fault.Refusal.TheVariants.{BadArgument, OutOfRange}

@@ -1,6 +1,9 @@
 -- Plain steps of a run, which are done many at a time where the run needs no look at the machine between them.
 use Rattle.std.specs.Prelude.{◌≡◌, ◌<◌, ◌≤◌, ℕ, zero, suc, Bool, true, false, List, Option, None, Some, Ok, IsOk, [], ◌∷◌, nat_lt, replicate, slice_set, if◌then◌else◌}
-use Rattle.mix_machine.specs.Prelude.{WorldState, has_break, does, is_plain_next, ends_at, Many, steps_on, Step, Mark}
+use Rattle.mix_machine.specs.Prelude.{WorldState, has_break, does, is_plain_next, ends_at, steps_on}
+use Rattle.mix_machine.specs.declared.many.Many.{Many}
+use Rattle.mix_machine.specs.declared.old.Change.TheVariants.{Step}
+use Rattle.mix_machine.specs.declared.part.Mark.{Mark}
 use Rattle.mix_machine.specs.Watch.{WatchState, with_all, with_location}
 use Rattle.mix_machine.specs.declared.watch.Seen.{Seen}
 use Rattle.mix_session.specs.Known.{has_conflict}

@@ -2,7 +2,9 @@
 use Rattle.std.specs.Prelude.{ℕ, List, Result, Ok, Err}
 use Rattle.mix_word.specs.Word.{WordValue}
 use Rattle.mixal_text.specs.Prelude.{NamesValue, ◌>>=◌}
-use Rattle.mix_machine.specs.Prelude.{Part, Change, SetReg, SetCell, SetLoc, SetOver, SetCmp}
+use Rattle.mix_machine.specs.declared.part.Part.{Part}
+use Rattle.mix_machine.specs.declared.old.Change.{Change}
+use Rattle.mix_machine.specs.declared.old.Change.TheVariants.{SetReg, SetCell, SetLoc, SetOver, SetCmp}
 use Rattle.mix_machine.specs.declared.part.Part.TheVariants as part
 use Rattle.mix_session.specs.Keyword.{set_name, all_sets, until_name, all_untils, toggle_name, all_toggles, indicator_name, all_indicators}
 use Rattle.mix_session.specs.Operand.{no_word, one_word, two_words, keyword_in, first_keyword, word_in, expression_in, place_of, one_place, one_unit}

@@ -1,7 +1,8 @@
 -- What `show` writes of the machine: lines of bytes, in a form of this project's own.
 use Rattle.std.specs.Prelude.{ℕ, ◌+◌, ◌-◌, ◌==◌, ◌||◌, ◌&&◌, Bool, nat_lt, List, [], ◌∷◌, ◌++◌, codes, replicate, length, flat_map, if◌then◌else◌}
 use Rattle.std.specs.Fmt.{decimal}
-use Rattle.mix_word.specs.Prelude.{WordValue, is_plus, location_text, word_text, short_text, all_registers, name_of_register, unit_count, Reg}
+use Rattle.mix_word.specs.Prelude.{WordValue, is_plus, location_text, word_text, short_text, all_registers, name_of_register, unit_count}
+use Rattle.mix_word.specs.declared.register.Reg.{Reg}
 use Rattle.mix_word.specs.declared.register.Reg.TheVariants as reg
 use Rattle.mix_machine.specs.Prelude.{WorldState, register_of, cell_of, has_break, unit_at, UnitState}
 use Rattle.mix_session.specs.Each.{texts}

@@ -4,7 +4,9 @@ use Rattle.std.specs.Fmt.{decimal}
 use Rattle.std.specs.List.{range_with_len}
 use Rattle.mix_word.specs.Prelude.{character_of, sign_text}
 use Rattle.mix_word.specs.Word.{WordValue, zero_word, bytes_of}
-use Rattle.mix_machine.specs.Prelude.{WorldState, unit_at, kind_of, RowState, UnitState, UnitKind, Tape, Disk, CardReader, CardPunch, Printer, Typewriter, PaperTape}
+use Rattle.mix_machine.specs.Prelude.{WorldState, unit_at, kind_of, RowState, UnitState}
+use Rattle.mix_machine.specs.declared.units.kind.UnitKind.{UnitKind}
+use Rattle.mix_machine.specs.declared.units.kind.UnitKind.TheVariants.{Tape, Disk, CardReader, CardPunch, Printer, Typewriter, PaperTape}
 
 -- a byte, in two digits
 abbrev pub pair_text : ℕ → List ℕ

@@ -1,6 +1,7 @@
 -- What `show value` writes: a word as its bytes, as its number and in characters.
 use Rattle.std.specs.Prelude.{ℕ, ◌+◌, List, [], ◌∷◌, ◌++◌, codes, flat_map}
-use Rattle.mix_word.specs.Prelude.{WordValue, byte_of, location_text, word_text, short_text, character_of, number_text, all_registers, name_of_register, Reg}
+use Rattle.mix_word.specs.Prelude.{WordValue, byte_of, location_text, word_text, short_text, character_of, number_text, all_registers, name_of_register}
+use Rattle.mix_word.specs.declared.register.Reg.{Reg}
 use Rattle.mix_machine.specs.World.{WorldState, register_of, cell_of}
 use Rattle.mix_session.specs.Columns.{left_in, right_in}
 use Rattle.mix_session.specs.Each.{texts}

@@ -2,7 +2,9 @@
 -- from its first state on the changes done, wherever something of it is asked.
 use Rattle.std.specs.Prelude.{ℕ, zero, suc, ◌-◌, ◌&&◌, Bool, true, false, List, [], ◌∷◌, ◌++◌, length, take, drop, nat_lt, unwrap_or, if◌then◌else◌}
 use Rattle.undo_core.specs.Prelude.{History, replay}
-use Rattle.mix_machine.specs.Prelude.{WorldState, has_break, does, Change, Step}
+use Rattle.mix_machine.specs.Prelude.{WorldState, has_break, does}
+use Rattle.mix_machine.specs.declared.old.Change.{Change}
+use Rattle.mix_machine.specs.declared.old.Change.TheVariants.{Step}
 use Rattle.mix_session.specs.declared.command.stops.Way.{Way}
 use Rattle.mix_session.specs.declared.command.stops.Way.TheVariants as way
 

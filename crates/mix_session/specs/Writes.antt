@@ -1,6 +1,8 @@
 -- The changes that altered a part of the machine, the last one first, with the part's marks before and after each.
 use Rattle.std.specs.Prelude.{ℕ, zero, suc, Bool, true, false, List, [], ◌∷◌, ◌++◌}
-use Rattle.mix_machine.specs.Prelude.{is_altered, mark_of, Mark, Part}
+use Rattle.mix_machine.specs.declared.part.Mark.{Mark}
+use Rattle.mix_machine.specs.declared.part.Part.{Part}
+use Rattle.mix_machine.specs.Part.{is_altered, mark_of}
 use Rattle.mix_session.specs.Change.{world_at}
 use Rattle.mix_session.specs.Timeline.{Timeline}
 use Rattle.mix_session.specs.declared.writes.Write.{Write}

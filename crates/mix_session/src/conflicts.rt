@@ -2,7 +2,8 @@
 
 ghost use Rattle.std.specs.Prelude.{◌≡◌, ◌<◌, ◌+◌, ◌++◌, List, Some, OnOk, IfErr, IfOk, length, take, true, false, is_some, if◌then◌else◌};
 ghost use Rattle.undo_core.specs.Replay.{replay};
-ghost use Rattle.mix_machine.specs.Prelude.{does, Step};
+ghost use Rattle.mix_machine.specs.declared.old.Change.TheVariants.{Step};
+ghost use Rattle.mix_machine.specs.Do.{does};
 ghost use Rattle.mix_session.specs.Prelude.{conflict_after, transfers_at, conflict_at, Timeline};
 ghost use Rattle.mix_session.specs.Known.{has_conflict, Knows, LooksAt, LooksOn};
 ghost use Rattle.mix_session.specs.declared.command.stops.Way.{Way as AWay};

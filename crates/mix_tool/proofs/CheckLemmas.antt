@@ -2,7 +2,8 @@
 use Rattle.std.proofs.Common.{◌≡◌, ℕ, ◌-◌, ◌≤◌, Bool, inl, inr, List, [], ◌∷◌, ◌++◌, length, take, drop, map, get_or, arith, Option, None, Some, Result, refl, sym, ap, ◌∙◌, subst, append_assoc}
 use Rattle.std.proofs.lemmas.List.{map-append, append-nil, take_all}
 use Rattle.mix_plan.specs.declared.plan.Plan.TheVariants as plan
-use Rattle.mix_run.specs.Prelude.{Named, Reported, ToolFault, Asks, Files, Missing, Opens, asked_of, missing_of, opened_text}
+use Rattle.mix_run.specs.Prelude.{Named, Reported, Asks, Files, Missing, Opens, asked_of, missing_of, opened_text}
+use Rattle.mix_run.specs.declared.fault.ToolFault.{ToolFault}
 use Rattle.mix_run.specs.declared.check.Reports.{Reports}
 use Rattle.mix_tool.specs.Ending.{IsAmong, IsFileOf, Seen}
 use Rattle.mix_tool.specs.Plan.{DoneAfter, named_of}

@@ -2,7 +2,10 @@
 use Rattle.std.proofs.Common.{◌≡◌, ◌≤◌, ◌⊎◌, ℕ, List, [], ◌∷◌, ◌++◌, Option, Result, Ok, Err, IfOk, arith, inl, inr, subst}
 use Rattle.std.specs.Prelude.{OnOk}
 use Rattle.std.specs.Result.{MatchResult}
-use Rattle.mix_run.specs.Prelude.{IsStatus, ToolFault, named, PrintAnswer, RunEnd}
+use Rattle.mix_run.specs.Prelude.{IsStatus, named}
+use Rattle.mix_run.specs.declared.fault.ToolFault.{ToolFault}
+use Rattle.mix_run.specs.declared.print.PrintAnswer.{PrintAnswer}
+use Rattle.mix_run.specs.declared.print.steps.RunEnd.{RunEnd}
 use Rattle.mix_run.specs.declared.print.PrintAnswer.TheVariants as answers
 use Rattle.mix_run.specs.declared.print.steps.RunEnd.TheVariants as ends
 use Rattle.mix_tool.specs.Ending.{IsAmong, status_of_end, status_of_print, status_of_run}

@@ -3,10 +3,16 @@ use Rattle.std.proofs.Common.{◌≡◌, ◌∙◌, ℕ, Bool, List, [], ◌∷�
 use Rattle.std.proofs.KnownBytes.{Appends-nil, Keeps-refl}
 use Rattle.std.specs.Prelude.{option_map, string_bytes}
 use Rattle.mix_files.specs.Bundle.{parts_of}
-use Rattle.mixal_asm.specs.Prelude.{assembly, ProgramValue, AsmFault}
-use Rattle.mix_machine.specs.Prelude.{UnitsState, DeckFault}
+use Rattle.mixal_asm.specs.Prelude.{assembly, ProgramValue}
+use Rattle.mixal_asm.specs.declared.fault.AsmFault.{AsmFault}
+use Rattle.mix_machine.specs.declared.units.deck_fault.DeckFault.{DeckFault}
+use Rattle.mix_machine.specs.units.Units.{UnitsState}
 use Rattle.mix_plan.specs.declared.run.RunPlan.{RunPlan}
-use Rattle.mix_run.specs.Prelude.{DrawnRun, IsMemoryOrRead, EndTableValue, counted_run, end_table_asked, Saved, named, noted, GivesUnits, ToolFault, Refused, Printed, PrintOptions}
+use Rattle.mix_run.specs.Prelude.{DrawnRun, IsMemoryOrRead, EndTableValue, counted_run, end_table_asked, Saved, named, noted, GivesUnits}
+use Rattle.mix_run.specs.declared.fault.ToolFault.{ToolFault}
+use Rattle.mix_run.specs.declared.print.PrintAnswer.TheVariants.{Refused}
+use Rattle.mix_run.specs.declared.print.Printed.{Printed}
+use Rattle.mix_run.specs.declared.print.options.PrintOptions.{PrintOptions}
 use Rattle.mix_run.specs.PrintOutput.{Leaves, PrintOutcome, counted_outcome, kept_of, outcome_by, outcome_of_run}
 use Rattle.mix_run.specs.declared.fault.ToolFault.TheVariants as faults
 use Rattle.mix_session.specs.declared.fault.Refusal.{Refusal}

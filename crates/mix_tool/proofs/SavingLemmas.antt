@@ -1,7 +1,11 @@
 -- What a run saves, by its status.
 use Rattle.std.proofs.Common.{◌≡◌, ◌∙◌, ◌⊎◌, ⊎_elim, ℕ, List, [], ◌∷◌, ◌++◌, Option, Some, Result, Ok, Err, ap, inl, inr, sym}
 use Rattle.std.specs.Prelude.{IfOk, unwrap_or}
-use Rattle.mix_run.specs.Prelude.{Asks, Saved, noted, PrintOutcome, kept_of, ToolFault, PrintAnswer, Printed, RunEnd}
+use Rattle.mix_run.specs.Prelude.{Asks, Saved, noted, PrintOutcome, kept_of}
+use Rattle.mix_run.specs.declared.fault.ToolFault.{ToolFault}
+use Rattle.mix_run.specs.declared.print.PrintAnswer.{PrintAnswer}
+use Rattle.mix_run.specs.declared.print.Printed.{Printed}
+use Rattle.mix_run.specs.declared.print.steps.RunEnd.{RunEnd}
 use Rattle.mix_run.specs.declared.print.PrintAnswer.TheVariants as answers
 use Rattle.mix_run.specs.declared.print.steps.RunEnd.TheVariants as ends
 use Rattle.mix_plan.specs.declared.plan.Plan.{Plan}

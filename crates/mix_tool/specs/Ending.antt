@@ -5,12 +5,20 @@ use Rattle.mix_stream.specs.Stream.{AppendsFront}
 use Rattle.mix_run.specs.Bundle.{OriginValue}
 use Rattle.mix_run.specs.Fault.{tool_fault_text}
 use Rattle.mix_run.specs.Output.{Meets, Outcome}
-use Rattle.mix_run.specs.Prelude.{PrintOutcome, kept_of, PrintAnswer, Printed, RunEnd, Talker, ToolFault, Asks, Files, Saved, WhyUnsaved, noted, Reason}
+use Rattle.mix_run.specs.Prelude.{PrintOutcome, kept_of, Asks, Files, Saved, WhyUnsaved, noted}
+use Rattle.mix_run.specs.declared.print.PrintAnswer.{PrintAnswer}
+use Rattle.mix_run.specs.declared.print.Printed.{Printed}
+use Rattle.mix_run.specs.declared.print.steps.RunEnd.{RunEnd}
+use Rattle.mix_run.specs.declared.talk.aside.Talker.{Talker}
+use Rattle.mix_run.specs.declared.fault.ToolFault.{ToolFault}
+use Rattle.mix_run.specs.declared.reason.Reason.{Reason}
 use Rattle.mix_run.specs.Talk.{TalksWith}
 use Rattle.mix_run.specs.declared.print.PrintAnswer.TheVariants as answers
 use Rattle.mix_run.specs.declared.print.steps.RunEnd.TheVariants as ends
-use Rattle.mixal_asm.specs.Prelude.{ProgramValue, AsmFault}
-use Rattle.mix_machine.specs.Prelude.{UnitsState, DeckFault}
+use Rattle.mixal_asm.specs.declared.fault.AsmFault.{AsmFault}
+use Rattle.mixal_asm.specs.Program.{ProgramValue}
+use Rattle.mix_machine.specs.declared.units.deck_fault.DeckFault.{DeckFault}
+use Rattle.mix_machine.specs.units.Units.{UnitsState}
 use Rattle.mix_run.specs.declared.fault.ToolFault.TheVariants as faults
 use Rattle.mix_run.specs.declared.replaces.Replaces.{Replaces}
 use Rattle.mix_run.specs.declared.replaces.Replaces.TheVariants as replaces

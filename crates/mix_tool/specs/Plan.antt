@@ -7,7 +7,9 @@ use Rattle.mix_plan.specs.declared.plan.DebugPlan.{DebugPlan}
 use Rattle.mix_plan.specs.declared.plan.Plan.{Plan}
 use Rattle.mix_plan.specs.declared.plan.Plan.TheVariants as plan
 use Rattle.mix_plan.specs.declared.run.RunPlan.{RunPlan}
-use Rattle.mix_run.specs.Prelude.{Checks, Named, debug_output, origin_given, bundle_output, list_output, ToolFault, Talker}
+use Rattle.mix_run.specs.Prelude.{Checks, Named, debug_output, origin_given, bundle_output, list_output}
+use Rattle.mix_run.specs.declared.fault.ToolFault.{ToolFault}
+use Rattle.mix_run.specs.declared.talk.aside.Talker.{Talker}
 use Rattle.mix_run.specs.declared.talk.Streams.{Streams}
 use Rattle.mix_tool.specs.Ending.{IsFileOf, Runs, Saves, Seen, TalkRuns, Tells, TellsRun, not_opened, not_replaced, status_of_run}
 use Rattle.mix_tool.specs.Run.{Given, IsUnread, subject_of, run_draws, run_output}

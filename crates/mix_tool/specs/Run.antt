@@ -2,8 +2,10 @@
 use Rattle.std.specs.Prelude.{◌≡◌, ◌≢◌, ℕ, Bool, List, [], Option, None, Some, option_map, is_some, string_bytes, Result, Ok, Err, if◌then◌else◌}
 use Rattle.std.specs.Io.KnownBytes.{Appends, Keeps}
 use Rattle.mix_files.specs.Bundle.{parts_of}
-use Rattle.mixal_asm.specs.Prelude.{assembly, ProgramValue, AsmFault}
-use Rattle.mix_machine.specs.Prelude.{UnitsState, deck_of, text_of_unit, DeckFault}
+use Rattle.mixal_asm.specs.Prelude.{assembly, ProgramValue}
+use Rattle.mixal_asm.specs.declared.fault.AsmFault.{AsmFault}
+use Rattle.mix_machine.specs.Prelude.{UnitsState, deck_of, text_of_unit}
+use Rattle.mix_machine.specs.declared.units.deck_fault.DeckFault.{DeckFault}
 use Rattle.mix_plan.specs.declared.run.AskedTable.{AskedTable}
 use Rattle.mix_plan.specs.declared.run.RunPlan.{RunPlan}
 use Rattle.mix_plan.specs.declared.run.TableFormat.{TableFormat}
@@ -11,7 +13,11 @@ use Rattle.mix_plan.specs.declared.run.TableFormat.TheVariants as format
 use Rattle.mix_plan.specs.declared.run.TableOf.{TableOf}
 use Rattle.mix_plan.specs.declared.run.TableOf.TheVariants as rows
 use Rattle.mix_plan.specs.declared.run.UnitSet.{UnitSet}
-use Rattle.mix_run.specs.Prelude.{DrawnRun, deck_given, ToolFault, Refused, Printed, PrintOptions}
+use Rattle.mix_run.specs.Prelude.{DrawnRun, deck_given}
+use Rattle.mix_run.specs.declared.fault.ToolFault.{ToolFault}
+use Rattle.mix_run.specs.declared.print.PrintAnswer.TheVariants.{Refused}
+use Rattle.mix_run.specs.declared.print.Printed.{Printed}
+use Rattle.mix_run.specs.declared.print.options.PrintOptions.{PrintOptions}
 use Rattle.mix_run.specs.PrintOutput.{Answered, PrintOutcome, UnitsRefused, bytes_of, outcome_of_run}
 use Rattle.mix_run.specs.declared.fault.ToolFault.TheVariants as faults
 use Rattle.mix_run.specs.declared.print.options.AskedTable.{AskedTable as RunTable}

@@ -1,15 +1,21 @@
 -- What is told beside a run, on the error output: which step conflicts with a transfer under way,
 -- where the run came to, and which text is not saved.
 use Rattle.std.specs.Prelude.{◌≡◌, ◌≢◌, ◌==◌, ◌⊎◌, ⊤, ℕ, Option, None, Some, List, [], ◌∷◌, ◌++◌, Result, Ok, Err, codes, decimal, if◌then◌else◌}
-use Rattle.mix_machine.specs.Prelude.{fault_line, Conflict}
+use Rattle.mix_machine.specs.declared.transfers.Conflict.{Conflict}
+use Rattle.mix_machine.specs.Fault.{fault_line}
 use Rattle.mix_refused.specs.declared.refused.Refused.TheVariants as refused
-use Rattle.mix_run.specs.Prelude.{WhyUnsaved, refused_by, ToolFault, PrintAnswer, Printed, RunEnd, PrintOutcome}
+use Rattle.mix_run.specs.Prelude.{WhyUnsaved, refused_by, PrintOutcome}
+use Rattle.mix_run.specs.declared.fault.ToolFault.{ToolFault}
+use Rattle.mix_run.specs.declared.print.PrintAnswer.{PrintAnswer}
+use Rattle.mix_run.specs.declared.print.Printed.{Printed}
+use Rattle.mix_run.specs.declared.print.steps.RunEnd.{RunEnd}
 use Rattle.mix_run.specs.declared.opener.Unsaved.TheVariants as unsaved
 use Rattle.mix_run.specs.declared.print.PrintAnswer.TheVariants as answers
 use Rattle.mix_run.specs.declared.print.loaded.RanTo.{RanTo}
 use Rattle.mix_run.specs.declared.print.steps.RunEnd.TheVariants as ends
 use Rattle.mix_run.specs.declared.print.watch.ConflictAt.{ConflictAt}
-use Rattle.mix_session.specs.Prelude.{conflict_text, Refusal}
+use Rattle.mix_session.specs.declared.fault.Refusal.{Refusal}
+use Rattle.mix_session.specs.Conflicts.{conflict_text}
 use Rattle.mix_session.specs.Fault.{refusal_text}
 use Rattle.mix_tool.specs.Ending.{IsFileOf, Seen, Wrote, answer_of, memory_line, not_opened, not_replaced, not_written, report, status_of_print}
 use Rattle.mix_tool.specs.Run.{Prints}

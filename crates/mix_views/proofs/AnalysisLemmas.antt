@@ -1,7 +1,8 @@
 -- Rows are those of the cells that there are, whatever counts the others.
 use Rattle.std.proofs.Common.{◌≡◌, ◌<◌, ◌≤◌, ◌∙◌, ℕ, zero, suc, List, ◌++◌, refl, ap, arith}
 use Rattle.mix_formula.specs.Rows.{RowValue}
-use Rattle.mix_session.specs.Prelude.{tally_at, SessionState, tally_in, Tally}
+use Rattle.mix_session.specs.Prelude.{tally_at, SessionState, tally_in}
+use Rattle.mix_session.specs.declared.tally.Tally.{Tally}
 use Rattle.mixal_asm.specs.Prelude.{ProgramValue, source_at}
 use Rattle.mix_views.specs.Analysis.{row_at, rows_below, rows_in}
 

@@ -3,7 +3,8 @@ use Rattle.std.specs.Prelude.{ℕ, zero, suc, ◌&&◌, Bool, List, [], ◌∷�
 use Rattle.std.specs.Option.{option_map}
 use Rattle.mix_formula.specs.Prelude.{given_of, NameValue, RowValue, bracket_of}
 use Rattle.mixal_asm.specs.Prelude.{SourceValue, Line, OfLiteral, OfName, ProgramValue, source_at, is_instruction}
-use Rattle.mix_session.specs.Prelude.{tally_at, SessionState, Tally}
+use Rattle.mix_session.specs.Prelude.{tally_at, SessionState}
+use Rattle.mix_session.specs.declared.tally.Tally.{Tally}
 
 -- the values that words give, if each gives one
 abbrev pub given_first : NameValue → Option (List NameValue) → Option (List NameValue)

@@ -5,7 +5,8 @@ use Rattle.std.specs.Option.{option_or}
 use Rattle.mix_word.specs.Word.{WordValue}
 use Rattle.mixal_asm.specs.Prelude.{Key, Name, Literal, IsNew, Before, NamesSoFar, value_of, waits_for, is_awaited, with_name, is_taken, name_of, Held, emitted_of, closed_held}
 use Rattle.mixal_asm.specs.declared.words.Emitted.{Emitted}
-use Rattle.mixal_text.specs.Prelude.{Label, APartValue, IsFuture}
+use Rattle.mixal_text.specs.declared.label.Label.{Label}
+use Rattle.mixal_text.specs.Address.{APartValue, IsFuture}
 use Rattle.mixal_text.specs.declared.label.Label.TheVariants as label
 use Rattle.mixal_asm.specs.Key.{same_key, same_key_decides, same_key_equivalence}
 use Rattle.mixal_asm.specs.Draft.{held_word, held_by, scope_value, IsDue, HasNoLiteral}

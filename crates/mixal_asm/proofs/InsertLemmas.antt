@@ -4,7 +4,9 @@ use Rattle.std.specs.Prelude.{slice_get, is_some, Result, Ok, Err, OnOk}
 use Rattle.std.specs.Option.{option_or}
 use Rattle.std.specs.List.{find}
 use Rattle.mixal_asm.specs.Draft.{passes}
-use Rattle.mix_refused.specs.Prelude.{Refused, Fault, Memory, IfFault}
+use Rattle.mix_refused.specs.declared.refused.Refused.{Refused}
+use Rattle.mix_refused.specs.declared.refused.Refused.TheVariants.{Fault, Memory}
+use Rattle.mix_refused.specs.Refused.{IfFault}
 use Rattle.mix_word.specs.Word.{WordValue}
 use Rattle.mixal_text.specs.declared.label.Label.{Label}
 use Rattle.mixal_text.specs.declared.label.Label.TheVariants as label

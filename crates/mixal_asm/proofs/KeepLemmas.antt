@@ -2,7 +2,8 @@
 use Rattle.std.proofs.Common.{◌≡◌, ℕ, suc, ◌+◌, ◌<◌, ◌&&◌, Bool, true, false, List, [], ◌∷◌, ◌++◌, length, Option, Some, None, refl, sym, ap, subst, ◌∙◌, arith, length-append, add-one}
 use Rattle.std.specs.Prelude.{nat_lt, nat_le, Result, Ok, Err}
 use Rattle.mix_word.specs.Word.{WordValue, plus}
-use Rattle.mixal_text.specs.Prelude.{Label, ◌>>=◌, w_value_of, APartValue, address_of}
+use Rattle.mixal_text.specs.Prelude.{◌>>=◌, w_value_of, APartValue, address_of}
+use Rattle.mixal_text.specs.declared.label.Label.{Label}
 use Rattle.mixal_text.specs.Address as apart
 use Rattle.mixal_asm.specs.Prelude.{AsmKind, Key, HasNoLiteral, IsReady}
 use Rattle.mixal_asm.specs.declared.fault.AsmKind.TheVariants.{AddressTooLarge, LocationOutOfRange}

@@ -2,7 +2,8 @@
 use Rattle.std.proofs.Common.{◌≡◌, ℕ, Bool, true, false, ◌&&◌, List, [], ◌∷◌, ◌++◌, Option, Some, None, length, refl, sym, ap, subst, ◌∙◌}
 use Rattle.std.specs.Prelude.{nat_le, OnOk}
 use Rattle.std.specs.Result.{IsErrAnd}
-use Rattle.mix_refused.specs.Prelude.{Refused, IfFault}
+use Rattle.mix_refused.specs.declared.refused.Refused.{Refused}
+use Rattle.mix_refused.specs.Refused.{IfFault}
 use Rattle.mix_refused.specs.declared.refused.Refused.TheVariants as refused
 use Rattle.std.proofs.lemmas.Result.{err_from_is_err_and}
 use Rattle.mixal_asm.specs.Prelude.{Key, AsmKind, Before, Line, with_name, name_of, is_awaited, with_loc, names_at, of_address, with_word, with_line, number_after, con_line, orig_line, location_of, machine_line, with_instruction, instruction, Text, NamesSoFar, Held, emitted_of}
@@ -10,7 +11,9 @@ use Rattle.mixal_asm.specs.declared.fault.AsmKind.TheVariants.{AddressTooLarge}
 use Rattle.mixal_asm.proofs.DraftLemmas.{no_literal_more}
 use Rattle.std.specs.Prelude.{Result, Ok, Err}
 use Rattle.mix_word.specs.Word.{WordValue, plus}
-use Rattle.mixal_text.specs.Prelude.{Label, ◌>>=◌, w_value_of, Misread, LineValue, line_of}
+use Rattle.mixal_text.specs.Prelude.{◌>>=◌, w_value_of, LineValue, line_of}
+use Rattle.mixal_text.specs.declared.label.Label.{Label}
+use Rattle.mixal_text.specs.declared.misread.Misread.{Misread}
 use Rattle.mixal_text.specs.Address.{OperandValue, address_of}
 use Rattle.mixal_asm.specs.declared.row.Shows.TheVariants as shows
 use Rattle.mixal_asm.specs.declared.scope.OwnLocal.{OwnLocal}

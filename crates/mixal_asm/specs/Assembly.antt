@@ -5,7 +5,9 @@ use Rattle.std.specs.Str.{bytes_eq}
 use Rattle.mix_word.specs.Word.{WordValue, plus, zero_word}
 use Rattle.mix_lines.specs.Lines.{lines}
 use Rattle.mixal_text.specs.declared.fault.TextFault.TheVariants.{NoSuchLocalSymbol}
-use Rattle.mixal_text.specs.Prelude.{Misread, misread, Label, ◌>>=◌, NamesValue, w_value_of}
+use Rattle.mixal_text.specs.Prelude.{misread, ◌>>=◌, NamesValue, w_value_of}
+use Rattle.mixal_text.specs.declared.misread.Misread.{Misread}
+use Rattle.mixal_text.specs.declared.label.Label.{Label}
 use Rattle.mixal_text.specs.declared.label.Label.TheVariants as label
 use Rattle.mixal_text.specs.declared.op.Op.{Op}
 use Rattle.mixal_text.specs.declared.op.Op.TheVariants.{Machine, Equ, Orig, Con, Alf, End}

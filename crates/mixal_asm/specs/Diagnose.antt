@@ -4,7 +4,9 @@ use Rattle.std.specs.List.{position_or_len}
 use Rattle.std.specs.Map.{lookup}
 use Rattle.std.specs.Str.{bytes_eq}
 use Rattle.mix_lines.specs.Lines.{lines, is_comment, begins_with}
-use Rattle.mixal_text.specs.Prelude.{TextFault, Label, part_span}
+use Rattle.mixal_text.specs.declared.fault.TextFault.{TextFault}
+use Rattle.mixal_text.specs.declared.label.Label.{Label}
+use Rattle.mixal_text.specs.Parts.{part_span}
 use Rattle.mixal_text.specs.declared.slips.Slip.{Slip}
 use Rattle.mixal_text.specs.declared.slips.Slip.TheVariants.{OperationAsLabel, NoLabel, AlfCut, AlfShort, BlankInAddress, NoField, WrongUnit, NoCell, NegativeShift}
 use Rattle.mixal_text.specs.Line.{is_end_op, loc_of_line, op_of_line}

@@ -1,7 +1,8 @@
 -- What is kept of the lines so far, as it agrees with the names that have a value.
 use Rattle.std.specs.Prelude.{◌≡◌, ℕ, ◌≤◌, nat_eq, Bool, false, List, map, Option, Some, None, if◌then◌else◌}
 use Rattle.mix_word.specs.Word.{WordValue}
-use Rattle.mixal_text.specs.Prelude.{Label, NamesValue, ◌>>=◌}
+use Rattle.mixal_text.specs.Prelude.{NamesValue, ◌>>=◌}
+use Rattle.mixal_text.specs.declared.label.Label.{Label}
 use Rattle.mixal_text.specs.declared.label.Label.TheVariants as label
 use Rattle.mixal_asm.specs.declared.key.Key.{Key}
 use Rattle.mixal_text.specs.Address.{APartValue, Value, Name, Ahead, Literal}

@@ -2,7 +2,10 @@
 use Rattle.std.specs.Prelude.{ℕ, zero, suc, ◌==◌, ◌&&◌, nat_lt, nat_le, Bool, List, [], ◌∷◌, ◌++◌, length, codes, Option, Some, None, Result, Ok, Err, if◌then◌else◌}
 use Rattle.std.specs.List.{list_any}
 use Rattle.mix_lines.specs.Lines.{lines}
-use Rattle.mixal_text.specs.Prelude.{TextFault, Label, Mnemonic, LineValue, Code, loc_of_line, op_of_line}
+use Rattle.mixal_text.specs.declared.fault.TextFault.{TextFault}
+use Rattle.mixal_text.specs.declared.label.Label.{Label}
+use Rattle.mixal_text.specs.declared.op.Mnemonic.{Mnemonic}
+use Rattle.mixal_text.specs.Line.{LineValue, Code, loc_of_line, op_of_line}
 use Rattle.mixal_text.specs.declared.op.Mnemonic.TheVariants.{Machine, Equ, Orig, Con, Alf, End}
 use Rattle.mixal_text.specs.declared.op.Op.TheVariants as op
 use Rattle.mixal_asm.specs.declared.fault.AsmKind.{AsmKind}

@@ -1,7 +1,8 @@
 -- The listing of an assembled source: a row for each line, what was inserted before END, and the symbols.
 use Rattle.std.specs.Prelude.{ℕ, ◌-◌, Bool, true, false, List, [], ◌∷◌, ◌++◌, length, replicate, slice_get, count_by, Option, Some, None, Result, Ok, Err, codes, decimal}
 use Rattle.mix_word.specs.Prelude.{WordValue, location_text, word_text}
-use Rattle.mix_refused.specs.Prelude.{Refused, Fault, Memory}
+use Rattle.mix_refused.specs.declared.refused.Refused.{Refused}
+use Rattle.mix_refused.specs.declared.refused.Refused.TheVariants.{Fault, Memory}
 use Rattle.mixal_asm.specs.declared.key.Key.{Key}
 use Rattle.mixal_asm.specs.declared.key.Key.TheVariants.{Name, Local, Literal}
 use Rattle.mixal_asm.specs.declared.row.Shows.{Shows}

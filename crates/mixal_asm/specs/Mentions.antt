@@ -2,7 +2,10 @@
 use Rattle.std.specs.Prelude.{ℕ, ◌+◌, ◌-◌, ◌==◌, ◌&&◌, nat_lt, not, Bool, true, false, List, [], ◌∷◌, ◌++◌, length, take, drop, map, slice_index, Option, Some, None, Result, Ok, Err, if◌then◌else◌}
 use Rattle.std.specs.List.{count_by, slice_split}
 use Rattle.mix_lines.specs.Lines.{lines, is_comment}
-use Rattle.mixal_text.specs.Prelude.{TextFault, Label, Mnemonic, is_other, op_of_line, local_of, part_span, symbol_of}
+use Rattle.mixal_text.specs.Prelude.{is_other, op_of_line, local_of, part_span, symbol_of}
+use Rattle.mixal_text.specs.declared.fault.TextFault.{TextFault}
+use Rattle.mixal_text.specs.declared.label.Label.{Label}
+use Rattle.mixal_text.specs.declared.op.Mnemonic.{Mnemonic}
 use Rattle.mixal_text.specs.declared.label.Label.TheVariants as label
 use Rattle.mixal_text.specs.declared.local.Direction.{Direction}
 use Rattle.mixal_text.specs.declared.local.Direction.TheVariants.{Here, Backward, Forward}

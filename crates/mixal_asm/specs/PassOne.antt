@@ -2,8 +2,11 @@
 use Rattle.std.specs.Prelude.{ℕ, ◌+◌, ◌&&◌, nat_lt, nat_le, Bool, false, List, [], ◌∷◌, ◌++◌, length, fold, count_by, is_some, Option, Some, None, option_and_then, ok_or, Result, Ok, Err, if◌then◌else◌}
 use Rattle.std.specs.List.{list_any}
 use Rattle.std.specs.Map.{lookup}
-use Rattle.mix_word.specs.Prelude.{Plus, WordValue, plus, natural_of, word_of_parts, parts_of}
-use Rattle.mixal_text.specs.Prelude.{Misread, Label, misread, part_span, ◌>>=◌, NamesValue, up_to, w_value_of}
+use Rattle.mix_word.specs.declared.word.Sign.TheVariants.{Plus}
+use Rattle.mix_word.specs.Word.{WordValue, plus, natural_of, word_of_parts, parts_of}
+use Rattle.mixal_text.specs.Prelude.{misread, part_span, ◌>>=◌, NamesValue, up_to, w_value_of}
+use Rattle.mixal_text.specs.declared.misread.Misread.{Misread}
+use Rattle.mixal_text.specs.declared.label.Label.{Label}
 use Rattle.mixal_text.specs.declared.parts.Part.TheVariants as part
 use Rattle.mixal_text.specs.declared.label.Label.TheVariants as label
 use Rattle.mixal_text.specs.Address.{APartValue, Value, Name, Ahead, Literal, OperandValue, address_of}

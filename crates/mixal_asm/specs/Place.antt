@@ -1,6 +1,9 @@
 -- Which bytes of its line a fault or a warning is about.
 use Rattle.std.specs.Prelude.{ℕ, List, Option, Some, None, Result, Ok}
-use Rattle.mixal_text.specs.Prelude.{TextFault, Mnemonic, Orig, part_span, op_of_line}
+use Rattle.mixal_text.specs.Prelude.{part_span, op_of_line}
+use Rattle.mixal_text.specs.declared.fault.TextFault.{TextFault}
+use Rattle.mixal_text.specs.declared.op.Mnemonic.{Mnemonic}
+use Rattle.mixal_text.specs.declared.op.Mnemonic.TheVariants.{Orig}
 use Rattle.mixal_text.specs.declared.misread.Span.{Span}
 use Rattle.mixal_text.specs.declared.parts.Part.{Part}
 use Rattle.mixal_text.specs.declared.parts.Part.TheVariants as part

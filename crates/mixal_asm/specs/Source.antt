@@ -6,7 +6,8 @@ use Rattle.std.specs.List.{filter_map, last_or}
 use Rattle.std.specs.Map.{lookup}
 use Rattle.std.specs.Str.{bytes_eq}
 use Rattle.mix_word.specs.Word.{WordValue}
-use Rattle.mixal_text.specs.Prelude.{Misread, Label}
+use Rattle.mixal_text.specs.declared.misread.Misread.{Misread}
+use Rattle.mixal_text.specs.declared.label.Label.{Label}
 use Rattle.mixal_text.specs.declared.label.Label.TheVariants as label
 use Rattle.mixal_text.specs.declared.op.Op.{Op}
 use Rattle.mixal_text.specs.declared.op.Op.TheVariants.{Machine, Equ, Orig, Con, Alf, End}

@@ -1,7 +1,8 @@
 -- The line that a fault at END is about (1.3.2): the one whose word waits for what is at fault.
 use Rattle.std.specs.Prelude.{ℕ, ◌+◌, ◌==◌, Bool, false, List, position, option_and_then, Option, Some, None}
 use Rattle.std.specs.List.{find}
-use Rattle.mixal_text.specs.Prelude.{Misread, misread}
+use Rattle.mixal_text.specs.declared.misread.Misread.{Misread}
+use Rattle.mixal_text.specs.Misread.{misread}
 use Rattle.mixal_asm.specs.declared.fault.AsmKind.{AsmKind}
 use Rattle.mixal_asm.specs.declared.fault.AsmKind.TheVariants.{Inserted}
 use Rattle.mixal_asm.specs.declared.key.Key.{Key}

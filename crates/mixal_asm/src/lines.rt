@@ -1,7 +1,8 @@
 //! The lines of a source but END, by OP (1.3.2).
 ghost use Rattle.std.specs.Prelude.{◌≡◌, ◌<◌, ◌≤◌, ◌++◌, [], ◌∷◌, length, map, false, Some, None, Ok, Err, OnOk, IfOk};
 ghost use Rattle.mix_refused.specs.Refused.{IfFault};
-ghost use Rattle.mix_word.specs.Prelude.{number_of, word_of_parts, Plus};
+ghost use Rattle.mix_word.specs.declared.word.Sign.TheVariants.{Plus};
+ghost use Rattle.mix_word.specs.Word.{number_of, word_of_parts};
 ghost use Rattle.mixal_text.specs.Address.{value_of_a_part};
 ghost use Rattle.mixal_asm.specs.declared.key.Key.TheVariants.{Literal};
 ghost use Rattle.mixal_asm.specs.PassOne.{with_word, with_instruction, is_taken, machine_line, equ_line, orig_line, con_line, alf_line, location_of, instruction};

@@ -3,7 +3,9 @@ use Rattle.std.proofs.Common.{Bool, true, false, ◌≡◌, ℕ, zero, suc, ◌+
 use Rattle.std.specs.Prelude.{◌==◌}
 use Rattle.std.specs.List.{before_first, position_or_len}
 use Rattle.std.proofs.lemmas.List.{length-drop, length-take}
-use Rattle.mix_word.specs.Prelude.{WordValue, Sign, Plus, Minus}
+use Rattle.mix_word.specs.declared.word.Sign.{Sign}
+use Rattle.mix_word.specs.declared.word.Sign.TheVariants.{Plus, Minus}
+use Rattle.mix_word.specs.Word.{WordValue}
 use Rattle.mixal_text.specs.Prelude.{Misread, or_at, ◌>>=◌, NamesValue}
 use Rattle.mixal_text.specs.declared.operator.Operator.{Operator}
 use Rattle.mixal_text.specs.declared.operator.Operator.TheVariants.{Add, Subtract, Multiply, Divide, Fraction, Field}

@@ -2,7 +2,9 @@
 -- strictly from left to right, and the first fault from the left is the answer. A text may stand at a place, from which its bytes
 -- are counted on.
 use Rattle.std.specs.Prelude.{ℕ, zero, suc, ◌+◌, ◌==◌, List, [], ◌∷◌, length, drop, Option, Some, None, Result, Ok, Err, if◌then◌else◌}
-use Rattle.mix_word.specs.Prelude.{Sign, Plus, Minus, WordValue, negation_of}
+use Rattle.mix_word.specs.declared.word.Sign.{Sign}
+use Rattle.mix_word.specs.declared.word.Sign.TheVariants.{Plus, Minus}
+use Rattle.mix_word.specs.Word.{WordValue, negation_of}
 use Rattle.mixal_text.specs.declared.fault.TextFault.TheVariants.{BadExpression}
 use Rattle.mixal_text.specs.declared.misread.Misread.{Misread}
 use Rattle.mixal_text.specs.declared.operator.Operator.{Operator}

@@ -3,7 +3,8 @@ use Rattle.std.specs.Prelude.{ℕ, Bool, not, ◌&&◌, List, [], Option, Some, 
 use Rattle.std.specs.List.{list_all}
 use Rattle.std.specs.Char.{is_ascii_alphabetic}
 use Rattle.std.specs.Str.{bytes_eq, str_to_ascii_uppercase}
-use Rattle.mix_word.specs.Prelude.{Operation, needs, operation_named, character_code}
+use Rattle.mix_word.specs.Prelude.{needs, operation_named, character_code}
+use Rattle.mix_word.specs.declared.operation.Operation.{Operation}
 use Rattle.mix_lines.specs.Lines.{begins_with}
 use Rattle.mixal_text.specs.declared.fault.TextFault.{TextFault}
 use Rattle.mixal_text.specs.declared.fault.TextFault.TheVariants.{BadByte, NoSuchOperation}

@@ -1,7 +1,12 @@
 -- A step that the machine refuses whatever it holds (1.3.1), by what its line gives in numbers.
 use Rattle.std.specs.Prelude.{ℕ, ◌+◌, ◌==◌, ◌&&◌, ◌||◌, nat_lt, nat_le, not, Bool, false, true, List, is_none, Option, Some, None, Result, Ok, Err, if◌then◌else◌}
 use Rattle.std.specs.List.{list_any}
-use Rattle.mix_word.specs.Prelude.{Decoded, Named, Floating, Unknown, Uses, UnitUse, Looks, Controls, Reads, Writes, natural_of, zero_word, uses_of, decode_of}
+use Rattle.mix_word.specs.Prelude.{natural_of, zero_word, uses_of, decode_of}
+use Rattle.mix_word.specs.declared.decoding.Decoded.{Decoded}
+use Rattle.mix_word.specs.declared.decoding.Decoded.TheVariants.{Named, Floating, Unknown}
+use Rattle.mix_word.specs.declared.uses.Uses.{Uses}
+use Rattle.mix_word.specs.declared.uses.UnitUse.{UnitUse}
+use Rattle.mix_word.specs.declared.uses.UnitUse.TheVariants.{Looks, Controls, Reads, Writes}
 use Rattle.mix_word.specs.declared.uses.Uses.TheVariants.{Nothing, FAlone, Address, Count, Operand, Cells, Unit}
 use Rattle.mixal_text.specs.declared.misread.Misread.{Misread}
 use Rattle.mixal_text.specs.declared.op.Op.{Op}

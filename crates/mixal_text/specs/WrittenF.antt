@@ -1,7 +1,10 @@
 -- An F that an ADDRESS gives in numbers, and that a step refuses whatever the machine holds (1.3.1, 1.3.2).
 use Rattle.std.specs.Prelude.{ℕ, ◌==◌, ◌&&◌, ◌||◌, nat_lt, not, Bool, false, List, [], ◌∷◌, is_none, is_some, Option, Some, None, Result, Ok, Err, if◌then◌else◌}
 use Rattle.std.specs.List.{list_any, after_first}
-use Rattle.mix_word.specs.Prelude.{Operation, Decoded, Named, Floating, Unknown, zero_word, field_of, needs, unit_count, decode_of}
+use Rattle.mix_word.specs.Prelude.{zero_word, field_of, needs, unit_count, decode_of}
+use Rattle.mix_word.specs.declared.operation.Operation.{Operation}
+use Rattle.mix_word.specs.declared.decoding.Decoded.{Decoded}
+use Rattle.mix_word.specs.declared.decoding.Decoded.TheVariants.{Named, Floating, Unknown}
 use Rattle.mixal_text.specs.declared.misread.Misread.{Misread}
 use Rattle.mixal_text.specs.declared.op.Op.{Op}
 use Rattle.mixal_text.specs.declared.op.Op.TheVariants.{Machine, Equ, Orig, Con, Alf, End}

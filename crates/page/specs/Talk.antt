@@ -1,6 +1,7 @@
 -- A talk with a client all of whose bytes are there when it begins.
 use Rattle.std.specs.Prelude.{◌≡◌, ◌⊎◌, ◌==◌, ℕ, List, [], Some, Ok, Err, length, if◌then◌else◌}
-use Rattle.rpc_stream.specs.Prelude.{broken_text, Broken}
+use Rattle.rpc_stream.specs.declared.broken.Broken.{Broken}
+use Rattle.rpc_stream.specs.Broken.{broken_text}
 use Rattle.rpc_stream.specs.declared.broken.Broken.TheVariants as broken
 use Rattle.mix_dap.specs.Dialogue.{DialogueAs, TellsBroken, line_of}
 

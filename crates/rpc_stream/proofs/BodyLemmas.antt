@@ -8,7 +8,10 @@ use Rattle.serde_json.specs.Read.{read}
 use Rattle.serde_json.specs.View.{view}
 use Rattle.mix_refused.specs.declared.refused.Refused.TheVariants as refused
 use Rattle.rpc_frame.specs.Frame.{First, whole, without_length, partial, too_long, first_frame}
-use Rattle.rpc_message.specs.Prelude.{request_seq, MessageFault, NotJson, NotRequest, Request}
+use Rattle.rpc_message.specs.declared.request.MessageFault.{MessageFault}
+use Rattle.rpc_message.specs.declared.request.MessageFault.TheVariants.{NotJson, NotRequest}
+use Rattle.rpc_message.specs.declared.request.Request.{Request}
+use Rattle.rpc_message.specs.Members.{request_seq}
 use Rattle.rpc_message.specs.Reads.{ReadsAs, Says}
 use Rattle.rpc_stream.specs.Asked.{Body, IsRequest, frame_in, asked_by, frame_with, message_in}
 use Rattle.rpc_stream.specs.Heard.{BeginsWith, Hears, HearsBodies}

@@ -4,7 +4,10 @@ use Rattle.std.specs.Str.{is_utf8}
 use Rattle.serde_json.specs.Data.{Data}
 use Rattle.serde_json.specs.Read.{read}
 use Rattle.serde_json.specs.View.{view}
-use Rattle.rpc_message.specs.Prelude.{request_seq, MessageFault, NotJson, NotRequest, Request}
+use Rattle.rpc_message.specs.declared.request.MessageFault.{MessageFault}
+use Rattle.rpc_message.specs.declared.request.MessageFault.TheVariants.{NotJson, NotRequest}
+use Rattle.rpc_message.specs.declared.request.Request.{Request}
+use Rattle.rpc_message.specs.Members.{request_seq}
 
 -- the message of a request, or the fault of its body; none where its header gives no length of a body
 abbrev pub Frame : Type 0

@@ -1,7 +1,10 @@
 -- What is sent for a frame: its answer.
 use Rattle.std.specs.Prelude.{◌≡◌, ℕ, List, [], ◌∷◌, Option, None, Some, Ok, Err, codes}
 use Rattle.serde_json.specs.Data.{Data}
-use Rattle.rpc_message.specs.Prelude.{next_seq, output_message, MessageFault, NotJson, NotRequest, Request}
+use Rattle.rpc_message.specs.declared.request.MessageFault.{MessageFault}
+use Rattle.rpc_message.specs.declared.request.MessageFault.TheVariants.{NotJson, NotRequest}
+use Rattle.rpc_message.specs.declared.request.Request.{Request}
+use Rattle.rpc_message.specs.Message.{next_seq, output_message}
 use Rattle.rpc_stream.specs.Asked.{Frame, IsRequest}
 use Rattle.rpc_stream.specs.declared.serves.Turn.{Turn}
 use Rattle.rpc_stream.specs.declared.serves.Turn.TheVariants as turn

@@ -1,6 +1,8 @@
 -- What is true of the state that a journal stands in is true of the state that its changes give.
 use Rattle.std.proofs.Common.{◌≡◌, ◌⊎◌, ◌<◌, ℕ, Bool, true, false, List, Some, Result, Ok, Err, IsOk, OnOk, OnErr, refl, subst, inl, inr}
-use Rattle.mix_refused.specs.Prelude.{Refused, Fault, Memory, IfFault, IfMemory}
+use Rattle.mix_refused.specs.declared.refused.Refused.{Refused}
+use Rattle.mix_refused.specs.declared.refused.Refused.TheVariants.{Fault, Memory}
+use Rattle.mix_refused.specs.Refused.{IfFault, IfMemory}
 use Rattle.undo_core.specs.Replay.{replay}
 
 pub on_err : {A B P : Type 0} (r : Result A B) → P → OnErr r P

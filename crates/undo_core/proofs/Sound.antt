@@ -5,7 +5,9 @@ use Rattle.std.proofs.Math.Seq.{drop-cons, drop-append_seam, take-append_seam}
 use Rattle.std.proofs.lemmas.List.{reverse-append, reverse-reverse, length-take-le, take_all, drop_all, take_more}
 use Rattle.std.proofs.lemmas.List.{take-append-drop, drop-append-le, take-take}
 use Rattle.std.specs.Result.{IsErrAnd}
-use Rattle.mix_refused.specs.Prelude.{Refused, Fault, Memory, IfFault, IfMemory}
+use Rattle.mix_refused.specs.declared.refused.Refused.{Refused}
+use Rattle.mix_refused.specs.declared.refused.Refused.TheVariants.{Fault, Memory}
+use Rattle.mix_refused.specs.Refused.{IfFault, IfMemory}
 use Rattle.undo_core.specs.Prelude.{total, replay, count_kept, put_back, unwound}
 use Rattle.undo_core.specs.Leads.{Leads, IsNewest, IsSound}
 use Rattle.undo_core.proofs.LeadsLemmas.{leads-replay, leads-count_kept, leads-put_back, leads-total}

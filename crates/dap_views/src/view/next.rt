@@ -1,7 +1,8 @@
 //! `mix/next`: what one step more would be.
 
 ghost use Rattle.std.specs.Prelude.{◌≡◌, IfOk, Err, Ok};
-ghost use Rattle.mix_machine.specs.Prelude.{does, Step};
+ghost use Rattle.mix_machine.specs.declared.old.Change.TheVariants.{Step};
+ghost use Rattle.mix_machine.specs.Do.{does};
 ghost use Rattle.mix_refused.specs.Refused.{IfFault};
 ghost use Rattle.mix_session.specs.Timeline.{world_of};
 

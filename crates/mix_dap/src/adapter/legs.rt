@@ -1,7 +1,8 @@
 //! A run: one leg after the other, until something ends it that is no breakpoint which the run goes on past.
 
 ghost use Rattle.std.specs.Prelude.{◌≡◌, IfErr, IfOk};
-ghost use Rattle.mix_session.specs.Prelude.{Begun, Ran};
+ghost use Rattle.mix_session.specs.declared.answer.Answer.TheVariants.{Ran};
+ghost use Rattle.mix_session.specs.Command.{Begun};
 ghost use Rattle.mix_dap.specs.Runs.{Leg, RunBroken, RunDone, awaited_by, effect_of_leg, passes_by, points_counted, timeline_after};
 
 use crate::adapter::Way;

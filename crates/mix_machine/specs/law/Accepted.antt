@@ -2,7 +2,14 @@
 use Rattle.std.specs.Prelude.{ℕ, ◌+◌, true, false, Bool, not, ◌&&◌, ◌||◌, ◌==◌, cond, nat_le, nat_lt, length, Option, Some, None, ◌≡◌, ◌<◌, ◌≤◌, refl}
 use Rattle.std.proofs.Common.{arith}
 use Rattle.std.proofs.lemmas.Bool.Decides.{nat_tests}
-use Rattle.mix_word.specs.Prelude.{WordValue, plus, sum_of, unit_count, DataReg, A, I1, I2, I3, I4, I5, I6, X, ShiftKind, Sla, Sra, Slax, Srax, Slc, Src, JumpKind, Operation, Div, Num, Add, Sub, Shift, Move, In, Out, Ioc, Jump, Increase, Decrease}
+use Rattle.mix_word.specs.Prelude.{WordValue, plus, sum_of, unit_count}
+use Rattle.mix_word.specs.declared.register.DataReg.{DataReg}
+use Rattle.mix_word.specs.declared.register.DataReg.TheVariants.{A, I1, I2, I3, I4, I5, I6, X}
+use Rattle.mix_word.specs.declared.operation.ShiftKind.{ShiftKind}
+use Rattle.mix_word.specs.declared.operation.ShiftKind.TheVariants.{Sla, Sra, Slax, Srax, Slc, Src}
+use Rattle.mix_word.specs.declared.operation.JumpKind.{JumpKind}
+use Rattle.mix_word.specs.declared.operation.Operation.{Operation}
+use Rattle.mix_word.specs.declared.operation.Operation.TheVariants.{Div, Num, Add, Sub, Shift, Move, In, Out, Ioc, Jump, Increase, Decrease}
 use Rattle.mix_word.specs.declared.operation.JumpKind.TheVariants.{Jmp, Jsj, Jov, Jnov, Less, Equal, Greater, GreaterEqual, NotEqual, LessEqual}
 use Rattle.mix_machine.specs.World.{WorldState, IsWorld, unit_at, last_clock}
 use Rattle.mix_machine.specs.Jump.{jump_writes}

@@ -1,6 +1,7 @@
 -- What carrying out the plan of a change comes to, of the state and of the values kept.
 use Rattle.std.specs.Prelude.{◌≡◌, ◌++◌, List, Result, Ok, Err, IsOk, OnOk, OnErr}
-use Rattle.mix_refused.specs.Prelude.{Refused, IfFault, IfMemory}
+use Rattle.mix_refused.specs.declared.refused.Refused.{Refused}
+use Rattle.mix_refused.specs.Refused.{IfFault, IfMemory}
 use Rattle.mix_machine.specs.World.{WorldState}
 use Rattle.mix_machine.specs.Do.{state_after, values_kept}
 use Rattle.mix_machine.specs.declared.plan.Plan.{Plan}

@@ -6,7 +6,8 @@ use Rattle.std.proofs.lemmas.Bool.{and_parts}
 use Rattle.std.proofs.lemmas.Bool.Decides.{nat_tests}
 use Rattle.std.proofs.lemmas.List.{set-get_or, set-set}
 use Rattle.undo_core.specs.Replay.{put_back}
-use Rattle.mix_word.specs.Prelude.{WordValue, zero_word, unit_count, Reg}
+use Rattle.mix_word.specs.Prelude.{WordValue, zero_word, unit_count}
+use Rattle.mix_word.specs.declared.register.Reg.{Reg}
 use Rattle.mix_word.specs.declared.register.Reg.TheVariants.{A, X, I1, I2, I3, I4, I5, I6, J}
 use Rattle.mix_machine.specs.Registers.{RegistersState, AreRegisters, held_in, with_register, fits_register}
 use Rattle.mix_machine.specs.World.{WorldState, IsWorld, cell_of, unit_at, has_break}

@@ -1,6 +1,7 @@
 -- The tests of a step in the groups in which the code makes them: of its instruction, of its operation, of the clock.
 use Rattle.std.specs.Prelude.{Bool, not, if◌then◌else◌, List, [], ◌∷◌, Option, Some, None, Result, Ok, Err}
-use Rattle.mix_word.specs.Prelude.{Named, Operation}
+use Rattle.mix_word.specs.declared.decoding.Decoded.TheVariants.{Named}
+use Rattle.mix_word.specs.declared.operation.Operation.{Operation}
 use Rattle.mix_machine.specs.World.{WorldState, cell_of}
 use Rattle.mix_machine.specs.Decode.{is_cell, is_field, field_at}
 use Rattle.mix_machine.specs.Effects.{effects, goes_on}

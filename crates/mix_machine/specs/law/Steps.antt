@@ -1,6 +1,7 @@
 -- What steps that are done one after the other come to.
 use Rattle.std.specs.Prelude.{◌≡◌, ℕ, ◌<◌, ◌≤◌, ◌&&◌, ◌⊎◌, Bool, true, false, List, ◌++◌, Result, Err, IsOk, OnOk, OnErr}
-use Rattle.mix_refused.specs.Prelude.{Refused, IfFault, IfMemory}
+use Rattle.mix_refused.specs.declared.refused.Refused.{Refused}
+use Rattle.mix_refused.specs.Refused.{IfFault, IfMemory}
 use Rattle.undo_core.specs.Repeat.{Repeats, goes_unless}
 use Rattle.mix_machine.specs.World.{WorldState, IsWorld}
 use Rattle.mix_machine.specs.Do.{does, kept_values, IsReal, is_plain_next, is_step}

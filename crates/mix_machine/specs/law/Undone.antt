@@ -3,7 +3,8 @@ use Rattle.std.specs.Prelude.{ℕ, Bool, true, false, not, ◌&&◌, cond, nat_l
 use Rattle.std.proofs.Common.{subst, arith}
 use Rattle.std.proofs.lemmas.Bool.Decides.{nat_tests}
 use Rattle.undo_core.specs.Replay.{put_back}
-use Rattle.mix_word.specs.Prelude.{Decoded, Operation}
+use Rattle.mix_word.specs.declared.decoding.Decoded.{Decoded}
+use Rattle.mix_word.specs.declared.operation.Operation.{Operation}
 use Rattle.mix_machine.specs.Registers.{fits_register}
 use Rattle.mix_machine.specs.World.{WorldState, IsWorld, last_clock}
 use Rattle.mix_machine.specs.Write.{put_value, kept_by, write_all, writes_of}

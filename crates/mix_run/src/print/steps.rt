@@ -1,6 +1,7 @@
 //! Steps without history, and what they print.
 ghost use Rattle.std.specs.Prelude.{◌≡◌, ◌<◌, ◌≤◌, ◌+◌, ◌-◌, ◌^◌, [], IfOk};
-ghost use Rattle.mix_machine.specs.Prelude.{conflict_of, Step};
+ghost use Rattle.mix_machine.specs.declared.old.Change.TheVariants.{Step};
+ghost use Rattle.mix_machine.specs.Transfers.{conflict_of};
 ghost use Rattle.mix_run.specs.Prelude.{counted, steps_of, stops, Writes};
 ghost use Rattle.mix_run.specs.PrintSteps.{HasCounts, StepMakes, StepNotes, StepPrints, StepStops, is_made};
 

@@ -2,7 +2,8 @@
 
 ghost use Rattle.std.specs.Prelude.{◌≡◌, ◌≤◌, ◌<◌, ◌+◌, ◌++◌, Some, None, OnOk, IfOk, Ok, length, reverse, take};
 ghost use Rattle.undo_core.specs.Replay.{put_back, replay};
-ghost use Rattle.mix_machine.specs.Prelude.{does, put_value, Change};
+ghost use Rattle.mix_machine.specs.Prelude.{does, put_value};
+ghost use Rattle.mix_machine.specs.declared.old.Change.{Change};
 ghost use Rattle.mix_session.specs.Change.{is_chosen, chosen_line_at, last_lines, writes_text};
 ghost use Rattle.mix_session.specs.Each.{texts};
 

@@ -1,6 +1,7 @@
 use Rattle.std.proofs.Common.{◌≡◌, ◌==◌, arith}
 use Rattle.std.proofs.lemmas.Bool.Decides.{nat_tests}
-use Rattle.mix_word.specs.Prelude.{parts_of, decode_of, number_of_pair, Hlt}
+use Rattle.mix_word.specs.Prelude.{parts_of, decode_of, number_of_pair}
+use Rattle.mix_word.specs.declared.operation.Operation.TheVariants.{Hlt}
 use Rattle.mix_machine.proofs.Halting.{halt-tested}
 use Rattle.mix_machine.proofs.world.is_halt.Goals as goal
 

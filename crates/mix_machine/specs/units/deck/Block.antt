@@ -4,7 +4,9 @@ use Rattle.std.specs.Option.{is_some, option_and_then, option_map}
 use Rattle.std.specs.List.{list_all}
 use Rattle.mix_lines.specs.Lines.{is_blank}
 use Rattle.mix_lines.specs.Number.{is_digit}
-use Rattle.mix_word.specs.Prelude.{WordValue, word_of_bytes, character_code, Sign, Plus, Minus}
+use Rattle.mix_word.specs.Prelude.{WordValue, word_of_bytes, character_code}
+use Rattle.mix_word.specs.declared.word.Sign.{Sign}
+use Rattle.mix_word.specs.declared.word.Sign.TheVariants.{Plus, Minus}
 
 abbrev pub sign_of : ℕ → Option Sign
 sign_of byte = if byte == 43 then Some Plus else if byte == 45 then Some Minus else None

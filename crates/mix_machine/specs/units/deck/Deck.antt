@@ -1,7 +1,8 @@
 -- The deck, line by line: what it gives to the units, or its first fault.
 use Rattle.std.specs.Prelude.{ℕ, ◌+◌, ◌*◌, ◌%◌, ◌≡◌, ◌≤◌, ◌==◌, Bool, true, false, not, ◌&&◌, nat_lt, List, [], ◌∷◌, ◌++◌, length, replicate, slice_index_or, slice_set, Option, None, Some, unwrap_or, Result, Ok, Err, if◌then◌else◌}
 use Rattle.std.specs.Option.{is_some}
-use Rattle.mix_refused.specs.Prelude.{Refused, Fault, Memory}
+use Rattle.mix_refused.specs.declared.refused.Refused.{Refused}
+use Rattle.mix_refused.specs.declared.refused.Refused.TheVariants.{Fault, Memory}
 use Rattle.mix_lines.specs.Lines.{lines, words}
 use Rattle.mix_word.specs.Prelude.{WordValue, unit_count}
 use Rattle.mix_machine.specs.units.UnitKind.{block_length}

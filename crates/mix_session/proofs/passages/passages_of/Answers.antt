@@ -1,6 +1,7 @@
 -- What is found and what is left are all states in which the machine is at the location.
 use Rattle.std.proofs.Common.{◌≡◌, ◌-◌, suc, ap, sym, ◌∙◌, arith}
-use Rattle.mix_machine.specs.Prelude.{mark_of, Loc}
+use Rattle.mix_machine.specs.declared.part.Part.TheVariants.{Loc}
+use Rattle.mix_machine.specs.Part.{mark_of}
 use Rattle.mix_session.proofs.TallyLemmas.{Stands-now, Marks-is}
 use Rattle.mix_session.proofs.PassagesLemmas.{passed-one, passed-first}
 use Rattle.mix_session.proofs.passages.passages_of.Goals as goal

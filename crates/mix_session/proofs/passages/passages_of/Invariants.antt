@@ -1,5 +1,6 @@
 use Rattle.std.proofs.Common.{◌≡◌, ◌≤◌, length}
-use Rattle.mix_machine.specs.Prelude.{mark_of, Loc}
+use Rattle.mix_machine.specs.declared.part.Part.TheVariants.{Loc}
+use Rattle.mix_machine.specs.Part.{mark_of}
 use Rattle.mix_session.specs.Change.{world_at}
 use Rattle.mix_session.proofs.PassagesLemmas.{ArePassed}
 use Rattle.mix_session.proofs.TallyLemmas.{Stands}

@@ -1,7 +1,8 @@
 -- What is counted and what is left come to the whole at each change.
 use Rattle.std.proofs.Common.{◌≡◌, ◌-◌, suc, ap, sym, refl, ◌∙◌, arith}
 use Rattle.std.proofs.lemmas.List.{with_items_is}
-use Rattle.mix_machine.specs.Prelude.{mark_of, Loc}
+use Rattle.mix_machine.specs.declared.part.Part.TheVariants.{Loc}
+use Rattle.mix_machine.specs.Part.{mark_of}
 use Rattle.mix_session.specs.Tally.{location_in}
 use Rattle.mix_session.proofs.PathLemmas.{AreCounted-none, AreCounted-one, AreCounted-other, room-one, IsPath-all}
 use Rattle.mix_session.proofs.TallyLemmas.{Stands-now, Marks-is, step-after}

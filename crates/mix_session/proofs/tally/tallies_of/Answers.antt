@@ -1,7 +1,8 @@
 -- What is counted and what is left come to the whole at each change.
 use Rattle.std.proofs.Common.{◌≡◌, ◌<◌, ◌-◌, suc, length, ap, sym, ◌∙◌, arith}
 use Rattle.std.proofs.lemmas.List.{with_items_is}
-use Rattle.mix_machine.specs.Prelude.{mark_of, Loc, Clock}
+use Rattle.mix_machine.specs.declared.part.Part.TheVariants.{Loc, Clock}
+use Rattle.mix_machine.specs.Part.{mark_of}
 use Rattle.mix_session.specs.Counts.{is_step_after}
 use Rattle.mix_session.proofs.TallyLemmas.{Stands-now, Passes-is, step-after, Took-is, IsTallied-none, IsTallied-one, IsTallied-other, HasRoom-one, HasRoom-at, AreTallied-none, AreTallied-one, AreTallied-other}
 use Rattle.mix_session.proofs.tally.tallies_of.Goals as goal

@@ -1,5 +1,6 @@
 use Rattle.std.proofs.Common.{◌≡◌, ◌<◌, ◌≤◌, ◌^◌, length}
-use Rattle.mix_machine.specs.Prelude.{mark_of, Loc, Clock}
+use Rattle.mix_machine.specs.declared.part.Part.TheVariants.{Loc, Clock}
+use Rattle.mix_machine.specs.Part.{mark_of}
 use Rattle.mix_session.specs.Prelude.{world_at, is_step_after}
 use Rattle.mix_session.proofs.TallyLemmas.{Stands, IsTallied, AreTallied}
 use Rattle.mix_session.proofs.tally.tallies_of.Given as goal

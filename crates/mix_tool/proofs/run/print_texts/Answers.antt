@@ -1,6 +1,7 @@
 -- What was read of the source is all that its run looks at.
 use Rattle.std.proofs.Common.{◌∙◌, [], IfOk, ap, subst, sym}
-use Rattle.mix_run.specs.Prelude.{DrawnRun, outcome_of_run, Refused}
+use Rattle.mix_run.specs.Prelude.{DrawnRun, outcome_of_run}
+use Rattle.mix_run.specs.declared.print.PrintAnswer.TheVariants.{Refused}
 use Rattle.mix_run.specs.declared.fault.ToolFault.TheVariants as faults
 use Rattle.mix_tool.specs.Run.{Prints, run_draws, run_output}
 use Rattle.mix_tool.proofs.RunLemmas.{draws-made, draws-refused, leaves-map, leaves-prints, prints-made, prints-no_units, prints-refused, prints-unread}

@@ -1,6 +1,7 @@
 -- The session does it, and that is told.
 use Rattle.std.proofs.Common.{subst}
-use Rattle.mix_session.specs.Prelude.{Timeline, Answer}
+use Rattle.mix_session.specs.declared.answer.Answer.{Answer}
+use Rattle.mix_session.specs.Timeline.{Timeline}
 use Rattle.dap_asked.specs.Deed.{effect_of_deed}
 use Rattle.mix_dap.specs.Prelude.{acted, beside, Answered}
 use Rattle.mix_dap.proofs.adapter.Adapter.act_on.Goals as goal

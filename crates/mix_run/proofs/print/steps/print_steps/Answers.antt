@@ -1,7 +1,8 @@
 -- One step more, and the plain ones after it.
 use Rattle.std.proofs.Common.{◌≡◌, ◌+◌, ◌-◌, ◌∙◌, [], suc, refl, sym, ap, arith}
 use Rattle.std.proofs.lemmas.Result.{err_from_is_err_and}
-use Rattle.mix_machine.specs.Prelude.{no_transfers, transfers_after, Step}
+use Rattle.mix_machine.specs.declared.old.Change.TheVariants.{Step}
+use Rattle.mix_machine.specs.Transfers.{no_transfers, transfers_after}
 use Rattle.mix_run.specs.Prelude.{counted, printed, printed_first, steps_of, written_by, conflicts_after}
 use Rattle.mix_run.proofs.PlainLemmas.{same-counts}
 use Rattle.mix_run.proofs.PrintLemmas.{written-all, written-begun, written-more}

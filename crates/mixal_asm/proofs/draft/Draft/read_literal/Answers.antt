@@ -1,6 +1,7 @@
 use Rattle.std.proofs.Common.{◌≡◌, ap, ◌∙◌, None, Err}
 use Rattle.mix_word.specs.Word.{plus}
-use Rattle.mixal_text.specs.Prelude.{Misread, w_value_of}
+use Rattle.mixal_text.specs.declared.misread.Misread.{Misread}
+use Rattle.mixal_text.specs.WValue.{w_value_of}
 use Rattle.mixal_asm.specs.Prelude.{Literal, scope_value}
 use Rattle.mixal_asm.specs.Assembly.{of_literal}
 use Rattle.mixal_asm.specs.User.{at_use}
