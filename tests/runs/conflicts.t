@@ -13,6 +13,17 @@ A line that is altered while it is printed, until 0 + 1 + 10.
   stderr: line.mixal:2: error: at 0001 clock 1 cell 0009 is altered while unit 18 prints it until 11
   [3]
 
+Its picture has the one step that it made.
+
+  $ mixrev run line.mixal --strict --svg map.svg </dev/null
+  HULLO
+  stderr: line.mixal:2: error: at 0001 clock 1 cell 0009 is altered while unit 18 prints it until 11
+  [3]
+  $ sed -n '3,5p' map.svg
+  <title id="map-title">Map of 1 change</title>
+  <desc id="map-desc">Line 1: 1 time, between changes 1 and 1.
+  </desc>
+
 Without a delay the transfer is over at once.
 
   $ mixrev run line.mixal --strict --devices /dev/null </dev/null

@@ -17,7 +17,7 @@ use crate::print::{PrintAnswer, Printed};
 use mix_machine::Units;
 use mix_map::{columns_of, map_of};
 use mix_refused::Memory;
-use mix_session::{Session, Span};
+use mix_session::{Session, Span, Stops, Way};
 use mix_stream::Out;
 use mixal_asm::Program;
 use std::alloc::Global;
@@ -64,22 +64,47 @@ fn tell_session<W: Out>(
 {
     let mut world = session.world_at(alloc, 0)?;
     let stepped = tell_steps(alloc, session.program(), &mut world, table, options, out)?;
-    let map = draw_steps(alloc, session, options)?;
+    let map = draw_steps(alloc, session, options, world.clock())?;
     let printed = left(alloc, session.program(), &world, stepped, options.keep, map)?;
     Ok(printed)
 }
 
-// The map of a session after its steps, if it is asked for.
+// Takes back the steps behind a clock, which a strict run did not make.
+fn back_to(session: &mut Session, clock: u64) -> Result<(), Memory>
+    ensures { session.new.program ≡ session.old.program }
+{
+    let stops = Stops {
+        breaks: false,
+        cells: &[],
+        watched: &[],
+        location: None,
+    };
+    let mut more = session.changes().len();
+    while more > 0 {
+        if session.world().clock() <= clock {
+            return Ok(());
+        }
+        session.run(Way::Back, 1, &stops)?;
+        more -= 1;
+    }
+    Ok(())
+}
+
+// The map of a session after the steps of a run that ended at a clock, if it is asked for.
 fn draw_steps(
     alloc: Global,
     session: &mut Session,
     options: PrintOptions,
+    clock: u64,
 ) -> Result<Vec<u8>, Memory>
     ensures program { session.new.program ≡ session.old.program }
     ensures map { IfOk result (λ map. DrawnIf options.map map.items) }
 {
     if options.map {
         run_steps(session, options.steps)?;
+        if options.strict {
+            back_to(session, clock)?;
+        }
         draw(alloc, session)
     } else {
         Ok(Vec::new(alloc))
