@@ -2,7 +2,7 @@
 ghost use Rattle.std.specs.Prelude.{◌≡◌, ◌+◌, [], ◌∷◌, Some, Ok, Err, true, false, nat_le, refl, if◌then◌else◌};
 ghost use Rattle.call_tests.specs.declared.counter.CounterFault.TheVariants.{PastNine};
 
-use crate::reader::number;
+use crate::row::number;
 use std::alloc::Global;
 use std::fmt::Write;
 use undo_core::{Journal, Kept, Memory, Refused, Undo};

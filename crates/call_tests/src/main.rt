@@ -7,9 +7,7 @@
 #![tactic(auto)]
 
 mod counter;
-mod mentioned;
 mod packed;
-mod reader;
 mod row;
 mod words;
 

@@ -1,6 +1,6 @@
 //! Kinds of rows: old values in units of 32 bits, there and back. A value of a register, a cell or a unit is judged for each register, for cells
 //! 0, 1, 2047 and 3999, and for each unit.
-use crate::reader::{number, one, two, word};
+use crate::row::{number, one, two, word};
 use mix_machine::{Cmp, Old, Place, Reg, Sign, Time, UnitNo, Word};
 use std::alloc::Global;
 use undo_core::Pack;

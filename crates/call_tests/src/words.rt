@@ -1,8 +1,8 @@
 //! Kinds of rows: words, codes and shifts that no machine holds or does; how a refusal of memory is handed on; and a source that is assembled line by line.
-use crate::reader::{number, one, two, word};
+use crate::row::{number, one, two, word};
 use mix_refused::{Memory, Refused};
 use mix_word::{Cmp, Decoded, Operation, Short, char_of, decode, named, shift};
-use mixal_asm::{Assembler, Fed};
+use mixal_asm::{Assembler, Fed, Mention, Name, Role, mentions_of};
 use std::alloc::{AllocError, Global};
 use std::cmp::Ordering;
 use std::fmt::Write;
@@ -113,4 +113,32 @@ fn waiting(alloc: Global, source: &str) -> Option<String> {
         }
     }
     Some(answer)
+}
+
+/// Each name with its line and its bytes, after an equals sign where the line defines it; `\n` parts
+/// the lines of the source.
+pub fn mentions(alloc: Global, fields: &[&str]) -> Option<String> {
+    let mut source = String::new(alloc);
+    for line in one(fields)?.split("\\n") {
+        source.push_str(line).ok()?;
+        source.push('\n').ok()?;
+    }
+    let mut answer = String::new(alloc);
+    for mention in &mentions_of(alloc, source.as_bytes()).ok()? {
+        add_mention(&mut answer, mention)?;
+    }
+    Some(answer)
+}
+
+fn add_mention(answer: &mut String, mention: &Mention) -> Option<()> {
+    match &mention.name {
+        Name::Symbol(symbol) => answer.push_str(str::from_utf8(symbol.name()).ok()?).ok()?,
+        Name::Local(digit, number) => write!(answer, "{digit}H{number}").ok()?,
+    }
+    let sign = match mention.role {
+        Role::Definition => "=",
+        Role::Use => "@",
+    };
+    let (line, at) = (mention.line, mention.at);
+    write!(answer, "{sign}{line}:{}-{} ", at.from, at.to).ok()
 }
