@@ -1,51 +1,50 @@
--- The map of what a list counts.
-use Rattle.std.proofs.Common.{◌≡◌, ◌+◌, ◌==◌, ◌&&◌, ℕ, suc, Bool, true, false, if◌then◌else◌, List, ◌++◌, refl, sym, ap, ◌∙◌, arith, append_assoc, length, take}
-use Rattle.std.proofs.lemmas.Bool.{and_parts, ltb-true}
-use Rattle.std.specs.Prelude.{nat_lt}
-use Rattle.mix_map.specs.Map.{Counts, MapValue, begin, box_at, box_if, boxes_from, count_in, counted, executed, map_by, map_counted, most_in, row_boxes, within}
+-- The boxes of a row, one more each time: the columns before the last end are each in one.
+use Rattle.std.proofs.Common.{◌≡◌, ℕ, ◌+◌, ◌<◌, ◌≤◌, ◌==◌, ◌&&◌, Bool, true, false, List, [], ◌∷◌, ◌++◌, refl, sym, ◌∙◌, arith, eq-eqb, if◌then◌else◌}
+use Rattle.std.specs.Prelude.{nat_le, nat_lt}
+use Rattle.std.proofs.lemmas.Bool.{le-leb, lt-leb, lt-ltb, ltb-false, ltb-true, ne_eqb}
+use Rattle.mix_map.specs.Map.{boxes_at, held, holds, one_if}
 use Rattle.mix_map.specs.declared.parts.MapBox.{MapBox}
-use Rattle.mix_map.specs.declared.parts.MapRow.{MapRow}
 
-same-if : (b : Bool) (m n : ℕ) → (b ≡ true → m ≡ n) → (if b then m else 0) ≡ (if b then n else 0)
-same-if true m n same = same refl
-same-if false m n same = refl
+by_test : {P : Type 0} (t : Bool) → (t ≡ true → P) → (t ≡ false → P) → P
+by_test true at_true at_false = at_true refl
+by_test false at_true at_false = at_false refl
 
-same-within : (columns : ℕ) (counts : List ℕ) (count : ℕ → ℕ → ℕ) → Counts columns counts count → (c p : ℕ) → counted columns counts c p ≡ within columns count c p
-same-within columns counts count same c p =
-    same-if (nat_lt c columns && nat_lt p 4000) (count_in counts c p) (count c p)
-    (λ both. let parts = and_parts (nat_lt c columns) (nat_lt p 4000) both in same c p (ltb-true c columns parts.0) (ltb-true p 4000 parts.1))
+-- one box more
+boxes-more : (r c : ℕ) (box : MapBox) (boxes : List MapBox) → boxes_at r c (boxes ++ box ∷ []) ≡ boxes_at r c boxes + held (holds r c box)
+boxes-more r c box [] = omega arith
+boxes-more r c box (first ∷ boxes) = let more = boxes-more r c box boxes in omega (arith, more)
 
-same-counts : (columns : ℕ) (counts : List ℕ) (count : ℕ → ℕ → ℕ) → Counts columns counts count → counted columns counts ≡ within columns count
-same-counts columns counts count same = λ i c p. same-within columns counts count same c p i
+abbrev pub drawn : ℕ → ℕ → ℕ → ℕ → MapBox
+drawn r from to dark = record { row = r; from = from; to = to; dark = dark }
 
-abbrev pub seen : ℕ → List MapRow → List MapBox → MapValue
-seen found rows boxes = record { found = found; rows = rows; boxes = boxes }
+held-is : (r from to dark c : ℕ) (a b : Bool) → nat_le from c ≡ a → nat_lt c to ≡ b → held (holds r c (drawn r from to dark)) ≡ held (a && b)
+held-is r from to dark c a b first last = rw (eq-eqb r r refl, first, last) refl
 
-pub map-made : (columns kept : ℕ) (counts : List ℕ) (count : ℕ → ℕ → ℕ) (all rows : List MapRow) (found most : ℕ) (boxes : List MapBox) → Counts columns counts count
-    → all ≡ executed (counted columns counts) columns 4000 → found ≡ length all → most ≡ most_in 0 all → rows ≡ take kept all
-    → boxes ≡ boxes_from (counted columns counts) columns most 0 rows
-    → seen found rows boxes ≡ map_by columns kept count
-unfolding map_by
-map-made columns kept counts count all rows found most boxes same each many largest first drawn =
-    let made : seen found rows boxes ≡ map_counted columns kept (counted columns counts) =
-    rw (drawn, first, largest, many, each) refl in
-    made ∙ ap (map_counted columns kept) (same-counts columns counts count same)
+-- a box of another row
+pub boxes-other : (n r c from to dark : ℕ) (boxes : List MapBox) → (n == r) ≡ false → boxes_at r c (boxes ++ drawn n from to dark ∷ []) ≡ boxes_at r c boxes
+boxes-other n r c from to dark boxes other =
+    let none : held (holds r c (drawn n from to dark)) ≡ 0 = rw other refl in
+    let more = boxes-more r c (drawn n from to dark) boxes in omega (arith, none, more)
 
--- one column more: where the columns begin that are as dark as the next one, and the boxes so far
-pub begin-next : (shade : ℕ → ℕ) (c from dark next new : ℕ) → from ≡ begin shade c → dark ≡ shade c → next ≡ shade (c + 1)
-    → new ≡ (if next == dark then from else c + 1) → new ≡ begin shade (c + 1)
-unfolding begin
-begin-next shade c from dark next new f d n e =
-    let more : c + 1 ≡ suc c = omega arith in
-    let here : (if next == dark then from else c + 1) ≡ begin shade (suc c) = rw (n, d, f, more) refl in
-    e ∙ here ∙ sym (ap (begin shade) more)
-
-pub boxes-next : (shade : ℕ → ℕ) (r c from dark next : ℕ) (old now new : List MapBox) → from ≡ begin shade c → dark ≡ shade c → next ≡ shade (c + 1)
-    → now ≡ old ++ row_boxes shade r c → new ≡ now ++ box_if (record { row = r; from = from; to = c + 1; dark = dark }) next
-    → new ≡ old ++ row_boxes shade r (c + 1)
-unfolding row_boxes
-boxes-next shade r c from dark next old now new f d n so_far added =
-    let more : c + 1 ≡ suc c = omega arith in
-    let here : box_if (record { row = r; from = from; to = c + 1; dark = dark }) next ≡ box_at shade r c = rw (n, d, f) refl in
-    added ∙ ap (λ xs. xs ++ box_if (record { row = r; from = from; to = c + 1; dark = dark }) next) so_far
-    ∙ append_assoc old (row_boxes shade r c) _ ∙ ap (λ xs. old ++ (row_boxes shade r c ++ xs)) here ∙ ap (λ k. old ++ row_boxes shade r k) (sym more)
+-- the columns from the last end on are alike and dark, and the next one is not: a box ends
+module _ (count : ℕ → ℕ) (k from dark : ℕ) (here : one_if dark ≡ one_if (count k)) (is_dark : 0 < dark) (within : from ≤ k)
+    (alike : (c : ℕ) → from ≤ c → c ≤ k → one_if (count c) ≡ one_if (count k)) where
+  pub own-drawn : (r c : ℕ) (boxes : List MapBox) → boxes_at r c boxes ≡ (if nat_lt c from then one_if (count c) else 0)
+      → boxes_at r c (boxes ++ drawn r from (k + 1) dark ∷ []) ≡ (if nat_lt c (k + 1) then one_if (count c) else 0)
+  own-drawn r c boxes own =
+      let more = boxes-more r c (drawn r from (k + 1) dark) boxes in
+      let one : one_if dark ≡ 1 = rw (ne_eqb dark 0 (λ e. omega (arith, e, is_dark))) refl in
+      by_test (nat_lt c from)
+      (λ t. let less = ltb-true c from t in
+      let had : boxes_at r c boxes ≡ one_if (count c) = own ∙ rw t refl in
+      let out : held (holds r c (drawn r from (k + 1) dark)) ≡ 0 = held-is r from (k + 1) dark c false true (lt-leb from c less) (lt-ltb c (k + 1) (omega (arith, less, within))) in
+      more ∙ rw (had, out, lt-ltb c (k + 1) (omega (arith, less, within))) (omega arith))
+      (λ t. let low = ltb-false c from t in
+      let had : boxes_at r c boxes ≡ 0 = own ∙ rw t refl in
+      by_test (nat_lt c (k + 1))
+      (λ u. let less = ltb-true c (k + 1) u in
+      let inside : held (holds r c (drawn r from (k + 1) dark)) ≡ 1 = held-is r from (k + 1) dark c true true (le-leb from c low) u in
+      let each : one_if (count c) ≡ 1 = alike c low (omega (arith, less)) ∙ sym here ∙ one in
+      more ∙ rw (had, inside, u) (sym each))
+      (λ u. let out : held (holds r c (drawn r from (k + 1) dark)) ≡ 0 = held-is r from (k + 1) dark c true false (le-leb from c low) u in
+      more ∙ rw (had, out, u) refl))

@@ -1,77 +1,52 @@
 //! The boxes of a map: of each row the columns that follow each other in which it is equally dark.
-ghost use Rattle.std.specs.Prelude.{◌≡◌, ◌++◌, ◌<◌, ◌≤◌, ◌==◌, OnOk, if◌then◌else◌};
-ghost use Rattle.mix_map.specs.Map.{box_if, boxes_from, counted, dark_of, digits_of, row_boxes, shade};
+ghost use Rattle.std.specs.Prelude.{◌≡◌, ◌<◌, ◌==◌, ℕ, OnOk, Some, false};
+ghost use Rattle.std.specs.List.{slice_get};
+ghost use Rattle.mix_map.specs.Map.{boxes_at, counted, one_if};
 
-use crate::parts::{MapBox, MapRow, Shades};
+use crate::parts::{MapBox, MapRow};
 use crate::rows::count_at;
 use std::alloc::AllocError;
 
-// How many binary digits a number has.
-fn digits_of(number: u64) -> u16
-    ensures is { result ≡ digits_of number }
-    ensures few { result ≤ 64 }
+// How dark the row of a place is in a column, by the digits of its count and of the most that one is; 0 where its instruction was not executed.
+fn shade(counts: &[u64], columns: u16, most: u64, place: u16, column: u16) -> u16
+    ensures { one_if result ≡ one_if (counted columns counts.now column place) }
 {
-    (64 - number.leading_zeros()) as u16
-}
-
-// How dark a count is, if this is the largest.
-fn dark_of(most: u64, count: u64) -> u16
-    ensures { result ≡ dark_of most count }
-{
+    let count = count_at(counts, columns, column, place);
     if count == 0 {
-        0
-    } else {
-        3 + 7 * digits_of(count) / digits_of(most).max(1)
+        return 0;
     }
+    let (digits, all) = (64 - count.leading_zeros(), 64 - most.leading_zeros());
+    (3 + 7 * digits / all.max(1)) as u16
 }
 
-// How dark a row is in a column.
-fn shade(row: &Shades, column: u16) -> u16
-    ensures { result ≡ shade row.now column }
-{
-    dark_of(
-        row.most,
-        count_at(row.counts, row.columns, column, row.place),
-    )
-}
-
-// Where the columns begin that are as dark as the next one.
-fn begin(from: u16, column: u16, is_like: bool) -> u16
-    ensures { result ≡ (if is_like then from else column) }
-{
-    if is_like { from } else { column }
-}
-
-// Adds a box, if the next column is not as dark.
-fn add_box(drawn: MapBox, next: u16, boxes: &mut Vec<MapBox>) -> Result<(), AllocError>
-    ensures { OnOk result (boxes.new.items ≡ boxes.old.items ++ box_if drawn next) }
-{
-    if drawn.dark != 0 && next != drawn.dark {
-        boxes.push(drawn)?;
-    }
-    Ok(())
-}
-
-// Adds those of a row.
-#[tactic(auto, unfolding(crate::specs::Map::begin, crate::specs::Map::row_boxes))]
-fn add_row(row: &Shades, number: usize, boxes: &mut Vec<MapBox>) -> Result<(), AllocError>
-    ensures { OnOk result (boxes.new.items ≡ boxes.old.items ++ row_boxes (shade row.now) number row.now.columns) }
+// Adds those of a row: each column in which its instruction was executed is in one of them.
+fn add_row(
+    counts: &[u64],
+    columns: u16,
+    most: u64,
+    place: u16,
+    number: usize,
+    boxes: &mut Vec<MapBox>,
+) -> Result<(), AllocError>
+    requires { (c : ℕ) → c < columns → boxes_at number c boxes.old.items ≡ 0 }
+    ensures own { OnOk result ((c : ℕ) → c < columns → boxes_at number c boxes.new.items ≡ one_if (counted columns counts.now c place)) }
+    ensures others { OnOk result ((r c : ℕ) → (number == r) ≡ false → boxes_at r c boxes.new.items ≡ boxes_at r c boxes.old.items) }
 {
     let (mut column, mut from) = (0, 0);
-    while column < row.columns {
-        let (dark, to) = (shade(row, column), column + 1);
-        let next = shade(row, to);
-        add_box(
-            MapBox {
-                row: number,
-                from,
-                to,
-                dark,
-            },
-            next,
-            boxes,
-        )?;
-        from = begin(from, to, next == dark);
+    while column < columns {
+        let dark = shade(counts, columns, most, place, column);
+        let to = column + 1;
+        if shade(counts, columns, most, place, to) != dark {
+            if dark != 0 {
+                boxes.push(MapBox {
+                    row: number,
+                    from,
+                    to,
+                    dark,
+                })?;
+            }
+            from = to;
+        }
         column = to;
     }
     Ok(())
@@ -85,23 +60,11 @@ pub(crate) fn add_boxes(
     rows: &[MapRow],
     boxes: &mut Vec<MapBox>,
 ) -> Result<(), AllocError>
-    ensures { OnOk result (boxes.new.items ≡ boxes.old.items ++ boxes_from (counted columns counts.now) columns most 0 rows.now) }
+    requires { (r c : ℕ) → boxes_at r c boxes.old.items ≡ 0 }
+    ensures { OnOk result ((r c : ℕ) (row : MapRow) → slice_get rows.now r ≡ Some row → c < columns → boxes_at r c boxes.new.items ≡ one_if (counted columns counts.now c row.place)) }
 {
-    let (mut number, mut rest) = (0, rows);
-    while let [row, after @ ..] = rest {
-        let place = row.place;
-        add_row(
-            &Shades {
-                counts,
-                columns,
-                most,
-                place,
-            },
-            number,
-            boxes,
-        )?;
-        number += 1;
-        rest = after;
+    for number in 0..rows.len() {
+        add_row(counts, columns, most, rows[number].place, number, boxes)?;
     }
     Ok(())
 }

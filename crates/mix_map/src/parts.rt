@@ -38,12 +38,3 @@ pub struct RunMap {
     /// Their boxes: row by row, and from left to right.
     pub boxes: Vec<MapBox>,
 }
-
-/// A row in its columns, of counts of which this is the largest.
-#[derive(Clone, Copy)]
-pub(crate) struct Shades<'a> {
-    pub counts: &'a [u64],
-    pub columns: u16,
-    pub most: u64,
-    pub place: u16,
-}

@@ -1,14 +1,13 @@
-use Rattle.std.proofs.Common.{◌≡◌, ◌+◌, ◌++◌, length}
-use Rattle.mix_map.specs.Map.{boxes_from, counted}
+use Rattle.std.proofs.Common.{◌≡◌, ◌≤◌, ◌<◌, ℕ, Some}
+use Rattle.std.specs.List.{slice_get}
+use Rattle.mix_map.specs.Map.{boxes_at, counted, one_if}
+use Rattle.mix_map.specs.declared.parts.MapRow.{MapRow}
 use Rattle.mix_map.proofs.boxes.add_boxes.Given as goal
 
--- the boxes so far, and those of the rows that are left, are all boxes
-abbrev pub invariant-loop-rest : goal.invariant-loop-rest
-invariant-loop-rest l = record {
-  number : l.number + length l.rest ≡ length l.rows;
-  boxes : l.boxes.items ++ boxes_from (counted l.columns l.counts) l.columns l.most l.number l.rest
-      ≡ l.fn.boxes.items ++ boxes_from (counted l.columns l.counts) l.columns l.most 0 l.rows;
+-- the boxes of the rows so far; no other row has one
+abbrev pub invariant-loop-number : goal.invariant-loop-number
+invariant-loop-number l = record {
+  drawn : (r c : ℕ) (row : MapRow) → slice_get l.rows r ≡ Some row → r < l.number → c < l.columns
+      → boxes_at r c l.boxes.items ≡ one_if (counted l.columns l.counts c row.place);
+  rest : (r c : ℕ) → l.number ≤ r → boxes_at r c l.boxes.items ≡ 0;
 }
-
-abbrev pub decreases-loop-rest : goal.decreases-loop-rest
-decreases-loop-rest l = length l.rest

@@ -1,12 +1,7 @@
-use Rattle.std.proofs.Common.{◌≡◌, ◌≤◌, ◌-◌}
-use Rattle.mix_map.specs.Map.{counted, executed}
+use Rattle.std.proofs.Common.{◌≡◌, map}
+use Rattle.mix_map.specs.Map.{counted, row_seen, rows_below}
 use Rattle.mix_map.proofs.rows.executed.Given as goal
 
+-- the rows of the places so far
 abbrev pub invariant-loop-place : goal.invariant-loop-place
-invariant-loop-place l = record {
-  within : l.place ≤ l.places;
-  rows : l.rows.items ≡ executed (counted l.columns l.counts) l.columns l.place;
-}
-
-abbrev pub decreases-loop-place : goal.decreases-loop-place
-decreases-loop-place l = l.places - l.place
+invariant-loop-place l = map row_seen l.rows.items ≡ rows_below (counted l.columns l.counts) l.columns l.place
