@@ -60,7 +60,7 @@ A run replaces neither its program nor another file that it reads, nor one of it
   stderr: 
   stderr: For more information, try '--help'.
   [2]
-  $ for words in '--svg q.mixal' '--cards deck --keep deck' '--typewriter deck --keep deck' '--devices deck --svg deck' '--cards deck --svg deck' '--typewriter deck --svg deck' '--svg new --keep new'; do
+  $ for words in '--svg q.mixal' '--cards deck --keep deck' '--typewriter deck --keep deck' '--devices deck --svg deck' '--cards deck --svg deck' '--typewriter deck --svg deck' '--svg new --keep new' '--keep ./q.mixal' '--svg new --keep ./new' '--cards .//./deck --svg deck' '--svg lost//new --keep ./lost/./new'; do
   >   mixrev run q.mixal $words | sed -n 1p
   > done
   stderr: error: the argument '--svg <FILE>' cannot replace the file of '<SOURCE>'
@@ -70,17 +70,38 @@ A run replaces neither its program nor another file that it reads, nor one of it
   stderr: error: the argument '--svg <FILE>' cannot replace the file of '--cards <FILE>'
   stderr: error: the argument '--svg <FILE>' cannot replace the file of '--typewriter <FILE>'
   stderr: error: the argument '--svg <FILE>' cannot replace the file of '--keep <FILE>'
+  stderr: error: the argument '--keep <FILE>' cannot replace the file of '<SOURCE>'
+  stderr: error: the argument '--svg <FILE>' cannot replace the file of '--keep <FILE>'
+  stderr: error: the argument '--svg <FILE>' cannot replace the file of '--cards <FILE>'
+  stderr: error: the argument '--svg <FILE>' cannot replace the file of '--keep <FILE>'
   $ cmp q.mixal q.copy && cmp deck deck.copy && ls new 2>&1 | wc -l
   1
 
+A name from the root is not the one from here, and `./-` is not standard output.
+
+  $ mixrev run q.mixal --keep lost/new --svg /lost/new
+  PRINT
+  stderr: mixrev: T4 not opened: lost/new: No such file or directory
+  stderr: mixrev: T4 not opened: /lost/new: No such file or directory
+  [2]
+  $ mixrev run q.mixal --keep ./- --svg - | sed -n '1p;$p'
+  PRINT
+  </svg>
+  $ ls ./-
+  ./-
+
 Under another name, or in another file, it replaces only what is of the kind that it writes. Nothing is printed then.
 
-  $ mixrev run q.mixal --keep ./q.mixal
-  stderr: mixrev: T8 not replaced: ./q.mixal: it holds something else
+  $ mkdir folder; mixrev run q.mixal --keep folder/../q.mixal
+  stderr: mixrev: T8 not replaced: folder/../q.mixal: it holds something else
   [2]
   $ ln -s q.mixal link; mixrev run q.mixal --svg link --keep new
   stderr: mixrev: T8 not replaced: link: it holds something else
   [2]
+  $ ln -s kept linked; mixrev run q.mixal --devices deck --keep kept --svg linked; sed -n 1p kept
+  PRINT
+  stderr: mixrev: T8 not replaced: linked: it holds something else
+  %UNIT 20
   $ printf '<svg>drawn by hand</svg>\n' >hand.svg
   $ mixrev run q.mixal --svg hand.svg
   stderr: mixrev: T8 not replaced: hand.svg: it holds something else

@@ -1,11 +1,14 @@
 //! Options of `run` that say nothing together: none is dropped without a word. And files that a run needs: none is replaced.
 
-ghost use Rattle.std.specs.Prelude.{◌≡◌, is_none, option_map, string_bytes};
-ghost use Rattle.mix_cli.specs.Files.{is_one_file, run_is_apart};
+ghost use Rattle.std.specs.Prelude.{◌≡◌, IfOk, is_none, option_map, string_bytes};
+ghost use Rattle.std.specs.Path.{path_buf_bytes};
+ghost use Rattle.mix_cli.specs.Files.{is_one_file, path_of, run_is_apart};
 
 use clap::ArgMatches;
 use mix_plan::RunPlan;
+use std::alloc::{AllocError, Global};
 use std::fmt;
+use std::path::{Path, PathBuf};
 
 /// Two options that say nothing together, the form of a table where there is none, or two arguments that name one file, which the first would replace.
 #[derive(Clone, Copy)]
@@ -101,16 +104,6 @@ pub(crate) fn vain_in(words: &ArgMatches<'_>) -> Option<Vain> {
     }
 }
 
-// Whether two names are of one file; `-` is standard input for one, and standard output for the other.
-fn is_one_file(name: Option<&str>, other: Option<&str>) -> bool
-    ensures { result ≡ is_one_file (option_map (λ s. s.now) name.entry) (option_map (λ s. s.now) other.entry) }
-{
-    match (name, other) {
-        (Some(name), Some(other)) => name == other && name != "-",
-        _ => false,
-    }
-}
-
 fn name_of(file: &Option<String>) -> Option<&str>
     ensures { option_map (λ s. s.now) result ≡ option_map string_bytes file.now }
 {
@@ -120,30 +113,55 @@ fn name_of(file: &Option<String>) -> Option<&str>
     }
 }
 
-/// A file that a run would replace and reads too, but for the deck with which its units begin, or would write twice.
-pub(crate) fn replaced(run: &RunPlan) -> Option<Vain>
-    ensures { is_none result ≡ run_is_apart run.now }
+// The path of a file from the current folder, so that `./a` is `a`. `-` has none: it is standard input for one, and standard output for the other.
+#[tactic(auto, unfolding(crate::specs::Files::path_of))]
+fn path_of(alloc: Global, name: Option<&str>) -> Result<Option<PathBuf>, AllocError>
+    ensures { IfOk result (λ path. option_map path_buf_bytes path ≡ path_of (option_map (λ s. s.now) name.entry)) }
 {
-    let (keep, svg) = (name_of(&run.keep), name_of(&run.svg));
-    let source = Some(run.source.as_str());
-    let (cards, typewriter) = (name_of(&run.cards), name_of(&run.typewriter));
-    if is_one_file(keep, source) {
-        Some(Vain::Replaced(KEEP, SOURCE))
-    } else if is_one_file(keep, cards) {
-        Some(Vain::Replaced(KEEP, CARDS))
-    } else if is_one_file(keep, typewriter) {
-        Some(Vain::Replaced(KEEP, TYPEWRITER))
-    } else if is_one_file(svg, source) {
-        Some(Vain::Replaced(SVG, SOURCE))
-    } else if is_one_file(svg, name_of(&run.devices)) {
-        Some(Vain::Replaced(SVG, "--devices <FILE>"))
-    } else if is_one_file(svg, cards) {
-        Some(Vain::Replaced(SVG, CARDS))
-    } else if is_one_file(svg, typewriter) {
-        Some(Vain::Replaced(SVG, TYPEWRITER))
-    } else if is_one_file(svg, keep) {
-        Some(Vain::Replaced(SVG, KEEP))
+    match name {
+        Some(name) if name != "-" => Ok(Some(Path::new(".").join(alloc, name)?)),
+        _ => Ok(None),
+    }
+}
+
+// Whether two paths are of one file, as they are written: no link is followed.
+#[tactic(auto, unfolding(crate::specs::Files::is_one_file))]
+fn is_one_file(path: &Option<PathBuf>, other: &Option<PathBuf>) -> bool
+    ensures { result ≡ is_one_file (option_map path_buf_bytes path.now) (option_map path_buf_bytes other.now) }
+{
+    match (path, other) {
+        (Some(path), Some(other)) => path == other,
+        _ => false,
+    }
+}
+
+/// A file that a run would replace and reads too, but for the deck with which its units begin, or would write twice. Memory may be refused.
+pub(crate) fn replaced(alloc: Global, run: &RunPlan) -> Result<Option<Vain>, AllocError>
+    ensures { IfOk result (λ vain. is_none vain ≡ run_is_apart run.now) }
+{
+    let keep = path_of(alloc, name_of(&run.keep))?;
+    let svg = path_of(alloc, name_of(&run.svg))?;
+    let source = path_of(alloc, Some(run.source.as_str()))?;
+    let cards = path_of(alloc, name_of(&run.cards))?;
+    let typewriter = path_of(alloc, name_of(&run.typewriter))?;
+    let devices = path_of(alloc, name_of(&run.devices))?;
+    if is_one_file(&keep, &source) {
+        Ok(Some(Vain::Replaced(KEEP, SOURCE)))
+    } else if is_one_file(&keep, &cards) {
+        Ok(Some(Vain::Replaced(KEEP, CARDS)))
+    } else if is_one_file(&keep, &typewriter) {
+        Ok(Some(Vain::Replaced(KEEP, TYPEWRITER)))
+    } else if is_one_file(&svg, &source) {
+        Ok(Some(Vain::Replaced(SVG, SOURCE)))
+    } else if is_one_file(&svg, &devices) {
+        Ok(Some(Vain::Replaced(SVG, "--devices <FILE>")))
+    } else if is_one_file(&svg, &cards) {
+        Ok(Some(Vain::Replaced(SVG, CARDS)))
+    } else if is_one_file(&svg, &typewriter) {
+        Ok(Some(Vain::Replaced(SVG, TYPEWRITER)))
+    } else if is_one_file(&svg, &keep) {
+        Ok(Some(Vain::Replaced(SVG, KEEP)))
     } else {
-        None
+        Ok(None)
     }
 }

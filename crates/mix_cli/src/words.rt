@@ -66,7 +66,7 @@ pub fn read_words<'a>(
                 return Err(LineFault::Vain(vain));
             }
             let run = run_plan(alloc, words)?;
-            match replaced(&run) {
+            match replaced(alloc, &run)? {
                 Some(vain) => Err(LineFault::Vain(vain)),
                 None => Ok(Plan::Run(run)),
             }

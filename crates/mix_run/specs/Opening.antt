@@ -48,9 +48,10 @@ abbrev pub may_replace : Replaces → Result (List ℕ) Reason → Bool
 may_replace over (Err reason) = true
 may_replace over (Ok text) = may_go over text
 
--- whether a name is among those of files that were to be saved
-abbrev pub is_saved : List Saved → List ℕ → Bool
-is_saved saved name = list_any (λ file. bytes_eq file.name name) saved
+-- whether a name is among those of files that were to be saved; where these are not known, it is not
+abbrev pub is_saved : Option (List Saved) → List ℕ → Bool
+is_saved None name = false
+is_saved (Some saved) name = list_any (λ file. bytes_eq file.name name) saved
 
 -- one more, where those so far are known
 abbrev pub noted_one : Option (List Saved) → Saved → Option (List Saved)

@@ -83,8 +83,8 @@ pub trait Opener {
     ) -> Result<(), Refused<Unsaved>>
         ensures created { Asks (created self.old) (created self.new) (name.now ∷ []) }
         ensures saved { saved self.new ≡ noted (saved self.old) (record { name = name.now; text = text.now; over = over } ∷ []) }
-        ensures taken { (all : Files) (before : List Saved) → holds self.old ≡ Some all → saved self.old ≡ Some before → is_saved before name.now ≡ false
-            → may_replace over (all name.now) ≡ false → OnOk result ⊥ }
+        ensures taken { (all : Files) → holds self.old ≡ Some all → is_saved (saved self.old) name.now ≡ false → may_replace over (all name.now) ≡ false
+            → OnOk result ⊥ }
         ensures refused { refusal self.new ≡ refused_by (refusal self.old) result }
         ensures same { holds self.new ≡ holds self.old }
         ensures nothing_asked { asked self.new ≡ asked self.old };
