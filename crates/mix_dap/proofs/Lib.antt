@@ -1,8 +1,6 @@
-pub mod AsksLemmas
 pub mod DialogueLemmas
 pub mod EventLemmas
 pub mod LegLemmas
 pub mod ReactionLemmas
 pub mod ServedLemmas
 pub mod StageLemmas
-pub mod TalkLemmas

@@ -7,8 +7,7 @@ use Rattle.rpc_stream.specs.Prelude.{Frame, Phase, going, over, Steps, Takes}
 use Rattle.rpc_stream.specs.declared.serves.Turn.{Turn}
 use Rattle.rpc_stream.specs.BrokenOff.{Begins}
 use Rattle.rpc_stream.specs.declared.serves.Turn.TheVariants as turn
-use Rattle.mix_dap.specs.Dialogue.{BeforeSteps, ExchangeBegins, Exchanges, Reached, Stage, StageSteps, debugs, done, waiting}
-use Rattle.mix_dap.specs.Served.{AdapterServes}
+use Rattle.mix_dap.specs.Dialogue.{BeforeSteps, ExchangeBegins, Exchanges, Reached, Stage, StageSteps, debugs, done, waiting, AdapterServes}
 use Rattle.mix_dap.specs.Stage.{StageAnswers, StageServes, turn_at}
 use Rattle.mix_dap.specs.declared.adapter.Adapter.{Adapter}
 

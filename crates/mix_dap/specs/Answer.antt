@@ -5,7 +5,7 @@ use Rattle.mix_session.specs.Session.{SessionState}
 use Rattle.rpc_message.specs.declared.outbox.Outbox.{Outbox}
 use Rattle.rpc_message.specs.declared.request.Request.{Request}
 use Rattle.mix_dap.specs.Events.{AddsEvents, Event, initialized}
-use Rattle.mix_dap.specs.Launched.{launched_of}
+use Rattle.mix_dap.specs.Launch.{launched_of}
 use Rattle.mix_dap.specs.Output.{output}
 use Rattle.mix_dap.specs.Replies.{AnswersAs, Outcome, denied, served}
 use Rattle.dap_points.specs.Points.{no_points}

@@ -16,15 +16,35 @@ use Rattle.mix_dap.specs.Answer.{HasTexts, LaunchTells}
 use Rattle.mix_dap.specs.Before.{AskedShows, IsLaunch, client_after}
 use Rattle.mix_dap.specs.Capabilities.{unknown_client}
 use Rattle.mix_dap.specs.Events.{Sends}
-use Rattle.mix_dap.specs.Launched.{launched_of}
+use Rattle.mix_dap.specs.Launch.{launched_of}
 use Rattle.mix_dap.specs.Output.{none_told}
-use Rattle.mix_dap.specs.Served.{AdapterServes}
 use Rattle.mix_dap.specs.Texts.{AreTexts, Known}
 use Rattle.mix_dap.specs.declared.adapter.Adapter.{Adapter}
 use Rattle.mix_dap.specs.declared.capabilities.Client.{Client}
 use Rattle.mix_dap.specs.declared.launch.Texts.{Texts}
 use Rattle.mix_dap.specs.declared.waiting.Asked.{Asked}
 use Rattle.mix_dap.specs.declared.waiting.Asked.TheVariants as asked
+use Rattle.rpc_stream.specs.declared.serves.Turn.{Turn}
+use Rattle.rpc_stream.specs.declared.serves.Turn.TheVariants as turn
+use Rattle.mix_dap.specs.Reacts.{KeepsSaid, Reacts}
+use Rattle.mix_dap.specs.declared.adapter.Flow.{Flow}
+use Rattle.mix_dap.specs.declared.adapter.Flow.TheVariants as flow
+
+-- ---- how the client of a launched program is answered
+
+abbrev pub turn_of : Flow → Turn
+turn_of flow.On = turn.On
+turn_of (flow.Refused why) = turn.On
+turn_of flow.Over = turn.Over
+
+-- a request of a launched program; the last messages before it and for it have these numbers
+pub record AdapterServes (a : Adapter × ℕ) (request : Request) (told : List Data) (next : Turn) (b : Adapter × ℕ) : Type 0 where
+  pub flow : Flow
+  pub next_is : next ≡ turn_of flow
+  pub program : b.0.session.program ≡ a.0.session.program
+  pub first : b.0.session.timeline.first ≡ a.0.session.timeline.first
+  pub keeps : KeepsSaid a.0 b.0
+  pub reacts : Sends told a.1 b.1 (λ old new. Reacts request a.0 flow b.0 old new)
 
 -- the line that tells what ended a dialogue, or that memory was refused for it
 abbrev pub line_of : List ℕ → List ℕ

@@ -1,6 +1,6 @@
 -- What a launch loads: the machine of a source, with the units of a deck, the cards of a text, and what another gives to be typed; or the fault of the
 -- first text that is at fault.
-use Rattle.std.specs.Prelude.{ℕ, List, Option, None, Some, Result, Ok, Err}
+use Rattle.std.specs.Prelude.{ℕ, List, Option, None, Some, Result, Ok, Err, unwrap_or}
 use Rattle.mixal_asm.specs.Prelude.{assembly, ProgramValue}
 use Rattle.mixal_asm.specs.declared.fault.AsmFault.{AsmFault}
 use Rattle.mix_machine.specs.Prelude.{UnitsState, deck_of, cards_of, typewriter_of}
@@ -9,6 +9,9 @@ use Rattle.mix_session.specs.Session.{SessionState, opened}
 use Rattle.dap_asked.specs.declared.fault.Fault.{Fault}
 use Rattle.dap_asked.specs.declared.fault.Fault.TheVariants as fault
 use Rattle.mixal_text.specs.Steps.{◌>>=◌}
+use Rattle.std.specs.Option.{option_map}
+use Rattle.mix_files.specs.Bundle.{parts_of}
+use Rattle.mix_dap.specs.declared.launch.Texts.{Texts}
 
 abbrev pub or_source : Result ProgramValue AsmFault → Result ProgramValue Fault
 or_source (Ok program) = Ok program
@@ -47,3 +50,15 @@ launched source deck cards typed = do
   program ← or_source (assembly source)
   units ← units_launched deck cards typed
   Ok (opened program units)
+
+-- ---- what the texts of a launch load: a bundle gives its deck, unless there is another
+
+abbrev pub source_of : Texts → List ℕ
+source_of texts = (parts_of texts.source.items).source
+
+abbrev pub deck_in : Texts → List ℕ
+deck_in texts = unwrap_or (option_map (λ deck. deck.items) texts.deck) (parts_of texts.source.items).deck
+
+abbrev pub launched_of : Texts → Result SessionState Fault
+launched_of texts =
+    launched (source_of texts) (deck_in texts) (option_map (λ cards. cards.items) texts.cards) (option_map (λ typed. typed.items) texts.typed)

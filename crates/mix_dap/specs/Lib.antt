@@ -6,7 +6,6 @@ pub mod Dialogue
 pub mod Ended
 pub mod Events
 pub mod Launch
-pub mod Launched
 pub mod Leaves
 pub mod Output
 pub mod Prelude
@@ -14,7 +13,6 @@ pub mod Reaction
 pub mod Reacts
 pub mod Replies
 pub mod Runs
-pub mod Served
 pub mod Stage
 pub mod Stopped
 pub mod Texts

@@ -4,7 +4,7 @@ pub use Rattle.mix_dap.specs.Before.{AskedShows}
 pub use Rattle.mix_dap.specs.Console.{is_said, line_meant}
 pub use Rattle.mix_dap.specs.Ended.{end_told}
 pub use Rattle.mix_dap.specs.Events.{AddsEvents, Event, invalidated, stopped, terminated}
-pub use Rattle.mix_dap.specs.Launched.{launched_of}
+pub use Rattle.mix_dap.specs.Launch.{launched_of}
 pub use Rattle.mix_dap.specs.Output.{all_told, output, outputs, row_output}
 pub use Rattle.mix_dap.specs.Reaction.{acted, beside, reaction, restarted}
 pub use Rattle.mix_dap.specs.Reacts.{Answered, Keeps}

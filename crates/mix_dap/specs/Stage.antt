@@ -4,8 +4,7 @@ use Rattle.serde_json.specs.Data.{Data}
 use Rattle.rpc_message.specs.declared.request.Request.{Request}
 use Rattle.rpc_stream.specs.declared.serves.Turn.{Turn}
 use Rattle.rpc_stream.specs.declared.serves.Turn.TheVariants as turn
-use Rattle.mix_dap.specs.Dialogue.{BeforeSteps, Reached, Stage, debugs, done, waiting}
-use Rattle.mix_dap.specs.Served.{AdapterServes}
+use Rattle.mix_dap.specs.Dialogue.{BeforeSteps, Reached, Stage, debugs, done, waiting, AdapterServes}
 use Rattle.mix_dap.specs.declared.adapter.Adapter.{Adapter}
 use Rattle.mix_dap.specs.declared.served.Holds.{Holds}
 use Rattle.mix_dap.specs.declared.served.Holds.TheVariants as holds

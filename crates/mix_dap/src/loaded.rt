@@ -5,8 +5,7 @@ ghost use Rattle.std.specs.Option.{option_map};
 ghost use Rattle.mixal_asm.specs.Assembly.{assembly};
 ghost use Rattle.mix_machine.specs.units.deck.Deck.{deck_of};
 ghost use Rattle.mix_refused.specs.Refused.{IfFault};
-ghost use Rattle.mix_dap.specs.Launch.{or_source, or_deck, units_launched, cards_launched, typed_launched};
-ghost use Rattle.mix_dap.specs.Launched.{deck_in, launched_of, source_of};
+ghost use Rattle.mix_dap.specs.Launch.{or_source, or_deck, units_launched, cards_launched, typed_launched, deck_in, launched_of, source_of};
 
 use crate::launch::Texts;
 use dap_asked::Fault;
