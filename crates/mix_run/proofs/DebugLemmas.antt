@@ -5,7 +5,8 @@ use Rattle.std.proofs.lemmas.List.{length-take-le, take_all}
 use Rattle.mixal_asm.specs.Prelude.{assembly, ProgramValue}
 use Rattle.mixal_asm.specs.declared.fault.AsmFault.{AsmFault}
 use Rattle.mix_machine.specs.units.deck.Deck.{deck_of}
-use Rattle.mix_run.specs.Prelude.{debug_output, Meets, outcome_of, output, refusal_of, parts_of, deck_given, ToolFault}
+use Rattle.mix_run.specs.Prelude.{debug_output, Meets, outcome_of, output, refusal_of, deck_given, ToolFault}
+use Rattle.mix_run.specs.PrintOutput.{parts_of}
 use Rattle.mix_run.specs.law.Truncation.{assembly-whole, parts-read}
 
 -- what was assembled is what the source of the text gives
