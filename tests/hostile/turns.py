@@ -8,6 +8,7 @@ import itertools
 import os
 import pathlib
 
+from tests import rowfiles
 from tests.hostile.runner import BUNDLES, Count, Runner, bundle, folder, library, lines
 from tests.hostile.streams import T2, T3
 from tests.rows.faces import bytes_of
@@ -18,8 +19,8 @@ SIZES = (1, 7, ALL)
 
 def rows_of(kind):
     """The rows of a kind in turned.rows, where `-` is nothing."""
-    lines = pathlib.Path(__file__).with_name("turned.rows").read_text().splitlines()
-    return [[None if field == "-" else bytes_of(field) for field in line.split("|")[1:]] for line in lines if line.startswith(f"{kind}|")]
+    found = rowfiles.rows_of(pathlib.Path(__file__).with_name("turned.rows"))
+    return [[None if field == "-" else bytes_of(field) for field in (*fields, last)] for _, name, fields, last in found if name == kind]
 
 
 LISTED = [(source, int(status), listing) for source, status, listing in rows_of("listed")]
