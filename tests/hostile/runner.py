@@ -1,4 +1,4 @@
-"""Runs of the built program, and the library in front of the C library's: what the parts of `tests/hostile/run` have in common."""
+"""Runs of the built program, and the library in front of the C library's."""
 
 import collections
 import os
@@ -8,7 +8,6 @@ import subprocess
 import tempfile
 
 from tests.model.program import SECONDS, Endless, Runner, ring  # noqa: F401
-from tests.tally import Count  # noqa: F401
 
 HERE = os.path.dirname(os.path.abspath(__file__))
 TOP = os.path.dirname(os.path.dirname(HERE))
@@ -37,17 +36,6 @@ FOLDER = "/dev/shm" if os.path.isdir("/dev/shm") else None
 def folder():
     """A folder for the files of runs, in memory where there is one."""
     return tempfile.TemporaryDirectory(dir=FOLDER, prefix="mixrev_hostile_")
-
-
-def shown(answer):
-    text = repr(answer)
-    return text if len(text) < 400 else text[:200] + " .. " + text[-200:]
-
-
-def takes_words(program):
-    """Whether the program reads a command line: `list` and `debug` are then tried too."""
-    answer = subprocess.run([program, "list", "/dev/null"], stdin=subprocess.DEVNULL, capture_output=True, timeout=SECONDS)
-    return answer.returncode == 1 and answer.stdout == b"line 1: A13 no END\n"
 
 
 def bundle(source, script, deck=None):

@@ -17,11 +17,12 @@ URI = "file:///a.mixal"
 OPERATIONS = client.TOP / "docs" / "operations.tsv"
 PSEUDO = ["EQU", "ORIG", "CON", "ALF", "END"]
 LETTERS = string.ascii_uppercase + string.digits
-ABLE = """definition references documentHighlight documentSymbol hover foldingRange codeAction
-    documentFormatting inlayHint"""
+ABLE = """definitionProvider referencesProvider documentHighlightProvider documentSymbolProvider
+    hoverProvider foldingRangeProvider codeActionProvider documentFormattingProvider
+    inlayHintProvider"""
 TYPES = ["label", "keyword", "variable", "number", "macro", "string", "comment"]
 TOKENS = {"full": True, "legend": {"tokenModifiers": [], "tokenTypes": TYPES}}
-ABILITIES = {f"{name}Provider": True for name in ABLE.split()} | {
+ABILITIES = dict.fromkeys(ABLE.split(), True) | {
     "textDocumentSync": {"openClose": True, "change": 2},
     "completionProvider": {},
     "renameProvider": {"prepareProvider": True},
@@ -83,7 +84,7 @@ def ask(serve):
             span = {"start": ends[0], "end": ends[1]}
             at = {"line": first, "character": last}
             place |= {"position": at} if ":" in where else {"range": span}
-        return server.ask(f"textDocument/{method}", place)
+        return server.ask(method, place)
 
     return asked
 
@@ -107,7 +108,7 @@ def mended(text, action):
 
 def actions(ask, text, where):
     """What mends some lines of a text, each as `mended` has it."""
-    found = ask(text, "codeAction", where, context={"diagnostics": []})
+    found = ask(text, "textDocument/codeAction", where, context={"diagnostics": []})
     return [mended(text, action) for action in found]
 
 
@@ -118,16 +119,18 @@ def hover(found):
 
 # What a row has of the result of a request, by its method.
 SHOWN = {
-    "rename": lambda found: sorted(
+    "textDocument/rename": lambda found: sorted(
         f"{point(edit['range']['start'])} {edit['newText']}" for edit in found["changes"][URI]
     ),
-    "prepareRename": lambda found: [f"{point(found['start'])}-{point(found['end'])}"],
-    "documentHighlight": lambda found: [str(one["kind"]) for one in found],
-    "documentSymbol": lambda found: [one["name"] for one in found],
-    "completion": lambda found: [one["label"] for one in found],
-    "hover": hover,
-    "inlayHint": lambda found: [f"{point(one['position'])} {one['label']}" for one in found],
-    "foldingRange": lambda found: [
+    "textDocument/prepareRename": lambda found: [f"{point(found['start'])}-{point(found['end'])}"],
+    "textDocument/documentHighlight": lambda found: [str(one["kind"]) for one in found],
+    "textDocument/documentSymbol": lambda found: [one["name"] for one in found],
+    "textDocument/completion": lambda found: [one["label"] for one in found],
+    "textDocument/hover": hover,
+    "textDocument/inlayHint": lambda found: [
+        f"{point(one['position'])} {one['label']}" for one in found
+    ],
+    "textDocument/foldingRange": lambda found: [
         f"{one['startLine']}-{one['endLine']} {one['kind']}" for one in found
     ],
 }
@@ -143,13 +146,14 @@ def test_row(program, ask, kind, text, fields, wanted):
         found = actions(ask, text.replace("%", fields[0]), "3-3")
     elif kind == "kinds":
         found = [
-            one["kind"] for one in ask(*fields, "codeAction", "0-0", context={"diagnostics": []})
+            one["kind"]
+            for one in ask(*fields, "textDocument/codeAction", "0-0", context={"diagnostics": []})
         ]
     elif kind == "tokens":
-        data = ask(text, "semanticTokens/full")["data"]
+        data = ask(text, "textDocument/semanticTokens/full")["data"]
         found = [" ".join(map(str, data[at : at + 5])) for at in range(0, len(data), 5)]
     else:
-        more = {"newName": fields[1]} if kind == "rename" else {}
+        more = {"newName": fields[1]} if kind == "textDocument/rename" else {}
         result = ask(text, kind, fields[0], **more)
         failed = result is None or "code" in result
         found = (
@@ -206,7 +210,7 @@ EVERY = dict(operations())
 
 
 def test_completion_of_op(ask):
-    items = ask("X    EQU  5\n     LDA  X\n     END  0\n", "completion", "1:6")
+    items = ask("X    EQU  5\n     LDA  X\n     END  0\n", "textDocument/completion", "1:6")
     assert sorted(one["label"] for one in items) == sorted([*EVERY, *PSEUDO])
     for one in items:
         assert one["detail"].endswith(EVERY.get(one["label"], "")), one
@@ -227,7 +231,7 @@ def test_operations_that_are_near(ask):
     words = [dice.choice(sorted(near[dice.choice(ordered)] - {*ordered, ""})) for _ in range(300)]
     for at in range(0, 300, 10):
         text = "".join(f" {word} 0\n" for word in words[at : at + 10])
-        found = ask(text, "codeAction", "0-9", context={"diagnostics": []})
+        found = ask(text, "textDocument/codeAction", "0-9", context={"diagnostics": []})
         meant = [
             next(name for name in ordered if word in near[name]) for word in words[at : at + 10]
         ]
