@@ -13,6 +13,7 @@ import pytest
 
 import variants
 from running import COURSE
+from tests.rowfiles import parts
 
 TOP = pathlib.Path(__file__).resolve().parent.parent
 
@@ -114,8 +115,8 @@ def constants(exercise, case):
 
 def rows(exercise, case):
     """The programs of tests/exercises.txt for an exercise: each as what it must get, its words and its source."""
-    for part in (TOP / "tests/exercises.txt").read_text().split("\n== ")[1:]:
-        (name, must), words, body = *[part.partition(":")[0].split()], part.partition("\n")[0].partition(": ")[2], part.partition("\n")[2]
+    for head, body in parts(TOP / "tests/exercises.txt"):
+        (name, must), words = head.partition(":")[0].split(), head.partition(": ")[2]
         if name == exercise.name:
             yield must, words, edited(variants.answer(exercise, case), body.splitlines()).text() if "=>" in body else body
 

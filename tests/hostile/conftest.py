@@ -1,14 +1,15 @@
 """Folders and runs of the program that is used badly."""
+import os
+import pathlib
 import shutil
+import subprocess
+import tempfile
 
 import pytest
 
-from tests.hostile.runner import Runner, folder, library
+from tests.model.program import Runner
 
-
-def pytest_addoption(parser):
-    parser.addoption("--full", action="store_true", help="all of what takes long")
-    parser.addoption("--again", metavar="FILE", help="the program of tests/hostile/again")
+REFUSE = pathlib.Path(__file__).with_name("refuse.c")
 
 
 @pytest.fixture
@@ -18,7 +19,8 @@ def full(request):
 
 @pytest.fixture
 def place():
-    with folder() as name:
+    """A folder for the files of runs, in memory where there is one."""
+    with tempfile.TemporaryDirectory(dir="/dev/shm" if os.path.isdir("/dev/shm") else None) as name:
         yield name
 
 
@@ -32,4 +34,7 @@ def refuse(place):
     """The library in front of the C library's."""
     if not shutil.which("cc"):
         pytest.skip("what needs a C compiler, which is not there")
-    return library(place)
+    name = os.path.join(place, "refuse.so")
+    command = ["cc", "-shared", "-fPIC", "-O1", "-o", name, REFUSE, "-ldl"]
+    subprocess.run(command, check=True)
+    return name

@@ -17,7 +17,7 @@ import os
 
 import pytest
 
-from tests.hostile.runner import lines
+from tests.hostile.inputs import lines
 from tests.hostile.test_memory import EACH, FIRST
 
 LOOP = lines(" JMP *", " END 0")

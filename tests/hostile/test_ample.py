@@ -4,7 +4,7 @@ What is due at a large clock is the model's; the rest is worked out here, by the
 
 import pytest
 
-from tests.hostile.runner import BUNDLES, bundle, lines
+from tests.hostile.inputs import BUNDLES, bundle, lines
 from tests.model import bundle as model
 
 TYPED, _, REPLIES, _ = BUNDLES["ample"]["every reply at a clock that two transfers have set"]

@@ -4,7 +4,7 @@ import os
 
 import pytest
 
-from tests.hostile.runner import BUNDLES, bundle, lines
+from tests.hostile.inputs import BUNDLES, bundle, lines
 from tests.model import bundle as model
 
 HELLO = BUNDLES["memory"]["a source with characters"].source

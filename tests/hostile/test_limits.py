@@ -5,7 +5,8 @@ import subprocess
 
 import pytest
 
-from tests.hostile.runner import SECONDS, bundle, lines
+from tests.hostile.inputs import bundle, lines
+from tests.model.program import SECONDS
 
 SOURCE, SCRIPT, DECK, BUNDLE = 1048576, 1048576, 33554432, 41943040
 END = b" END 0\n"

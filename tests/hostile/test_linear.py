@@ -10,7 +10,7 @@ import subprocess
 
 import pytest
 
-from tests.hostile.runner import HERE, bundle, lines
+from tests.hostile.inputs import HERE, bundle, lines
 
 pytestmark = pytest.mark.skipif(not shutil.which("valgrind"), reason="what counts instructions, since there is no valgrind")
 

@@ -14,7 +14,8 @@ import re
 
 import pytest
 
-from tests.hostile.runner import BUNDLES, Runner, bundle
+from tests.hostile.inputs import BUNDLES, bundle
+from tests.model.program import Runner
 
 T1 = b"mixrev: T1 out of memory\n"
 OWN = 9  # the status of tests/hostile/again where its own needs were refused

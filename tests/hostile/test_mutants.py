@@ -7,7 +7,7 @@ import signal
 
 import pytest
 
-from tests.hostile.runner import TOP, Endless, bundle, lines, ring
+from tests.hostile.inputs import TOP, bundle, lines
 from tests.hostile.test_cuts import DECK, GREETED, HELLO, READ, READS
 from tests.model import bundle as model
 from tests.runs.bundles import bundles
@@ -103,13 +103,17 @@ def number(draw, text, texts):
 CHANGES = [flip, byte, lines_changed, cut, spliced, word, number]
 
 
+def ring(*_):
+    raise TimeoutError
+
+
 def model_of(text):
     """What the model gives, or None where it takes too long."""
     signal.signal(signal.SIGVTALRM, ring)
     signal.setitimer(signal.ITIMER_VIRTUAL, MODEL_SECONDS)
     try:
         return model.run(text)
-    except (Endless, MemoryError, RecursionError):
+    except (TimeoutError, MemoryError, RecursionError):
         return None
     finally:
         signal.setitimer(signal.ITIMER_VIRTUAL, 0)

@@ -3,7 +3,7 @@
 import pytest
 
 from tests.adapter.frames import BODY, frame, messages, request
-from tests.hostile.runner import bundle, lines
+from tests.hostile.inputs import bundle, lines
 from tests.hostile.test_limits import DECK, SCRIPT, SOURCE, filled, shown_block
 
 LOOP = b" JMP *\n END 0\n"

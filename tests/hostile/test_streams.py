@@ -9,8 +9,9 @@ import threading
 
 import pytest
 
-from tests.hostile.runner import SECONDS, bundle, lines
+from tests.hostile.inputs import bundle, lines
 from tests.hostile.test_cuts import GREETED, HELLO
+from tests.model.program import SECONDS
 
 TEXT = bundle(HELLO, GREETED)
 LONG = bundle(lines(" END 0"), lines(*["show cells 0 3999"] * 20))

@@ -11,7 +11,7 @@ import pathlib
 import pytest
 
 from tests import rowfiles
-from tests.hostile.runner import BUNDLES, bundle, lines
+from tests.hostile.inputs import BUNDLES, bundle, lines
 from tests.hostile.test_streams import T2, T3
 from tests.rows.faces import bytes_of
 

@@ -10,6 +10,7 @@ import random
 import re
 
 import variants
+from tests.rowfiles import parts
 
 NAMES = "ABER AGAIN BACK BIG CELL CHECK DOWN EMPTY ENDE FERTIG FIRST FORTH FULL GO1 HERE ITEM KEEP LOOP MORE NEXT9 OVER PASS PUT2 Q7 RUN SKIP STOP T1 UP".split()
 REMARKS = "the next one|is it the last?|not yet|one less|one more|keep it|go on|this took me a whole night|as on page 145|round again|done".split("|")
@@ -19,8 +20,7 @@ EXPECTED = ["right"] * 50 + ["slow"] * 12 + ["wrong"] * 18 + ["copy"] * 20
 def programs():
     """Of each lesson its right programs, slow ones, and mistakes."""
     found = {}
-    for part in (pathlib.Path(__file__).resolve().parent / "programs.txt").read_text().split("\n== ")[1:]:
-        head, _, body = part.partition("\n")
+    for head, body in parts(pathlib.Path(__file__).with_name("programs.txt")):
         lesson, kind = head.split()
         mistakes = [[words.strip() for words in line.split("=>")] for line in body.splitlines()]
         found.setdefault(lesson, {"right": [], "slow": [], "wrong": []})[kind] += mistakes if kind == "wrong" else [body]
