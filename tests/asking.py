@@ -1,15 +1,13 @@
-"""Asks the debug adapter about the run of a program, reads sources, words and expressions of MIXAL by the book's rules, and writes words, registers,
-rows and changes as the program does, for tests alone."""
-import operator
+"""Asks the debug adapter about the run of a program, reads symbols and expressions as the model does, and writes words, registers, rows and changes as the
+program does, for tests alone."""
 import pathlib
-import re
 
 from tests.adapter.frames import DONE, framed, launch, messages, sent
+from tests.model import words
+from tests.model.assembler import assemble
+from tests.model.expressions import expression
 
 TOP = pathlib.Path(__file__).resolve().parent.parent
-
-
-OPERATORS = {"+": operator.add, "-": operator.sub, "*": operator.mul}
 REGISTERS = ("A", "X", "I1", "I2", "I3", "I4", "I5", "I6", "J")
 STATE = ("mix/state", {"cells": [], "nonzero": True})
 
@@ -45,7 +43,7 @@ def told(response):
 
 
 class Machine:
-    """The machine of a moment; its words as sign and bytes."""
+    """The machine of a moment; its words are those of the model."""
 
     def __init__(self, response):
         body = response["body"]
@@ -54,17 +52,17 @@ class Machine:
         self.registers = {each["name"]: word_of(each["word"]) for each in body["registers"]}
 
     def word(self, at):
-        return self.cells.get(at, ("+", [0] * 5))
+        return self.cells.get(at, words.ZERO)
 
 
 def word_of(text):
-    sign, *bytes = text.split()
-    return sign, [int(byte) for byte in bytes]
+    sign, *five = text.split()
+    return words.joined(sign, map(int, five))
 
 
 def written(n, size=5):
     """A number from 0 on as a word is written, or as a register of fewer bytes."""
-    return "+" + "".join(" %02d" % (n >> 6 * at & 63) for at in reversed(range(size)))
+    return words.written(("+", n), 6 - size)
 
 
 def registers(location, clock, comparison, **held):
@@ -83,42 +81,10 @@ def change(n, place, text, time, *items):
     return "".join(["%7d  %04d  %-17s  %3du" % (n, place, text, time)] + ["  " + item for item in items])
 
 
-def field_of(word, left=0, right=5):
-    """The sign and the bytes of a field (L:R) of a word."""
-    sign, bytes = word
-    return sign if left == 0 else "+", bytes[max(left, 1) - 1:right]
-
-
-def number_of(word):
-    sign, bytes = word
-    size = sum(byte * 64**at for at, byte in enumerate(reversed(bytes)))
-    return -size if sign == "-" else size
-
-
-def text_of(word):
-    """A word's number as it is written; minus zero is -0."""
-    sign, _ = word
-    return f"{'-' if sign == '-' else ''}{abs(number_of(word))}"
-
-
 def value_of(text, symbols):
-    """The value of an expression, whose operators have no rank: from left to right."""
-    total, does = 0, "+"
-    for part in re.findall(r"[A-Z0-9]+|[-+*]", text):
-        if part in OPERATORS:
-            does = part
-        else:
-            total = OPERATORS[does](total, int(part) if part.isdigit() else symbols[part])
-    return total
+    return words.number(expression(text.encode(), 0, symbols, words.ZERO)[0])
 
 
 def symbols_of(source):
-    """The symbols of a source: what EQU says, or the location, which each line moves by a word but EQU, ORIG and END."""
-    here, symbols = 0, {}
-    for each in source:
-        if each[:1] == "*" or not each.strip():
-            continue
-        label, name, address = [*([""] if each[0].isspace() else []), *each.split(), ""][:3]
-        symbols[label] = value_of(address, symbols) if name == "EQU" else here
-        here = value_of(address, symbols) if name == "ORIG" else here + (name not in ("EQU", "END"))
-    return symbols
+    """The symbols of a source, each with its word."""
+    return dict(assemble("".join(f"{line}\n" for line in source).encode()).symbols())

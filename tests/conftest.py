@@ -5,6 +5,8 @@ import pytest
 def pytest_addoption(parser):
     parser.addoption("--program", required=True, help="the built program")
     parser.addoption("--examples", type=int, help="how many inputs each random test draws")
+    parser.addoption("--full", action="store_true", help="what takes long, too")
+    parser.addoption("--again", metavar="FILE", help="the program of tests/hostile/again")
 
 
 @pytest.fixture

@@ -8,7 +8,8 @@ import re
 import pytest
 
 from running import Bundle, at_a_terminal, replies_of
-from tests.asking import STATE, TOP, Machine, asked, field_of, line, number_of, symbols_of, text_of, told, total_of, value_of
+from tests.asking import STATE, TOP, Machine, asked, line, symbols_of, told, total_of, value_of
+from tests.model import words
 
 REMARK = "* nodes: "
 FEWEST = 10  # lessons that have the remark
@@ -34,13 +35,13 @@ class Shape:
     @staticmethod
     def field(word, at):
         place, left, right = re.fullmatch(r"(.*?)(?:\((\d):(\d)\))?", word).groups()
-        return at(place), int(left or 0), int(right or 5)
+        return at(place), 8 * int(left or 0) + int(right or 5)
 
 
 def read(shape, machine):
     """The lines of `show nodes`: the nodes in breadth from those of row 0."""
     nodes = range(shape.first, shape.last - shape.size + 2, shape.size)
-    at = lambda place, field: field_of(machine.word(place + field[0]), *field[1:])
+    at = lambda place, field: words.field_value(machine.word(place + field[0]), field[1])
 
     def leads(number, row=None):
         """What is said of a link; with the row of its node, whether it leads back."""
@@ -51,18 +52,18 @@ def read(shape, machine):
             return f"{goal:04}" if goal in nodes else f"inside:{goal:04}"
         return f"out:{number}" if number else "nil"
 
-    registers = {name: number_of(word) for name, word in machine.registers.items() if name[0] == "I"}
-    heads = [(word, registers.get(head, head) if isinstance(head, (str, int)) else number_of(at(0, head))) for word, head in shape.heads]
+    registers = {name: words.number(word) for name, word in machine.registers.items() if name[0] == "I"}
+    heads = [(word, registers.get(head, head) if isinstance(head, (str, int)) else words.number(at(0, head))) for word, head in shape.heads]
     pointers = [(name, shape.base + number) for name, number in registers.items() if number and shape.base + number in nodes]
     row = {shape.base + number for _, number in heads if number} & set(nodes) if heads else set(nodes)
-    rows, links = {}, {node: [number_of(at(node, field)) for field in shape.links] for node in nodes}
+    rows, links = {}, {node: [words.number(at(node, field)) for field in shape.links] for node in nodes}
     while row:
         rows |= dict.fromkeys(row, max(rows.values(), default=-1) + 1)
         row = {shape.base + number for node in row for number in links[node] if number} & set(nodes) - set(rows)
     yield from (f"head {word} {leads(number)}" for word, number in heads)
     yield from (f"pointer {name} {node:04}" for name, node in pointers)
     for node in sorted(rows):
-        label = ["label", *(text_of(at(node, field)) for field in shape.label)] if shape.label else []
+        label = ["label", *(words.number_text(at(node, field)) for field in shape.label)] if shape.label else []
         yield " ".join([f"node {node:04} row {rows[node]}", *label, "links", *(leads(number, rows[node]) for number in links[node])])
     if len(rows) < len(nodes):
         yield f"unreached {len(nodes) - len(rows)}"

@@ -9,7 +9,8 @@ import re
 import pytest
 
 from running import Bundle
-from tests.asking import REGISTERS, STATE, TOP, Machine, asked, line, symbols_of, text_of, told, total_of, value_of
+from tests.asking import REGISTERS, STATE, TOP, Machine, asked, line, symbols_of, told, total_of, value_of
+from tests.model.words import number_text
 
 MOST = 200  # passages that are told
 COMPARED = {"<": operator.lt, "<=": operator.le, "=": operator.eq, "<>": operator.ne, ">=": operator.ge, ">": operator.gt}
@@ -38,13 +39,13 @@ def columns(words, symbols):
         first, _, last = word.partition("..")
         if last:
             for at in range(value_of(first, symbols), value_of(last, symbols) + 1):
-                yield f"{at:04}", lambda machine, at=at: text_of(machine.word(at))
+                yield f"{at:04}", lambda machine, at=at: number_text(machine.word(at))
         elif re.fullmatch(r"[-+]?\d+", word):
             yield word, lambda machine, word=word: word
-        elif word.removeprefix("r") in REGISTERS and word not in symbols:
-            yield word, lambda machine, name=word.removeprefix("r"): text_of(machine.registers[name])
+        elif word.removeprefix("r") in REGISTERS and word.encode() not in symbols:
+            yield word, lambda machine, name=word.removeprefix("r"): number_text(machine.registers[name])
         else:
-            yield word, lambda machine, at=value_of(word, symbols): text_of(machine.word(at))
+            yield word, lambda machine, at=value_of(word, symbols): number_text(machine.word(at))
 
 
 def read(machines, items, compared, symbols):
@@ -67,7 +68,7 @@ def test_line(program, name, label, items, compared):
     lines = [f"show passages {place} of {items} assert {compared}" for place in (label, f"line {number}")]
     moments = [each for moment in range(total_of(program, bundle) + 1) for each in (line(f"goto {moment}"), STATE)]
     _, by_label, by_number, writes, *states = asked(program, bundle, [line("run 1000000"), *map(line, lines), line(f"show writes loc {label}"), *moments])
-    there = [machine for machine in map(Machine, states[1::2]) if machine.location == symbols[label]]
+    there = [machine for machine in map(Machine, states[1::2]) if machine.location == value_of(label, symbols)]
     wanted = "".join(f"{each}\n" for each in read(there, items, compared, symbols))
     changes = [int(each[:7]) for each in told(writes).splitlines()]
     assert changes == [machine.done for machine in there if machine.done], f"{name}, {label}: the changes that lead there"

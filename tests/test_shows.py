@@ -8,14 +8,13 @@ import pytest
 
 from running import Bundle
 from tests.asking import asked, line, told
-
-TALKS = pathlib.Path(__file__).with_name("shows.txt").read_text()
+from tests.rowfiles import parts
 
 
 def talks():
-    for talk in re.split(r"(?m)^== ", TALKS)[1:]:
-        (name, _, source), *replies = (part.partition("\n") for part in re.split(r"(?m)^\$ ", talk))
-        yield pytest.param(source, [(text, reply) for text, _, reply in replies], id=name)
+    for name, talk in parts(pathlib.Path(__file__).with_name("shows.txt")):
+        source, *replies = re.split(r"(?m)^\$ ", talk)
+        yield pytest.param(source, [reply.partition("\n")[::2] for reply in replies], id=name)
 
 
 @pytest.mark.parametrize("source, replies", talks())

@@ -1,39 +1,19 @@
 """A client of the language server: messages in frames, and texts that are counted as the protocol does."""
-import glob
 import json
-import os
+import pathlib
 import re
 import subprocess
 
-TOP = os.path.dirname(os.path.dirname(os.path.dirname(os.path.abspath(__file__))))
+from tests.adapter.frames import frame
+
+TOP = pathlib.Path(__file__).resolve().parents[2]
 ENDS = re.compile("\r\n|\n|\r")
 
 
 def sources():
-    """The names of the sources of course/ and examples/."""
-    within = sorted(glob.glob(os.path.join(TOP, "course", "**", "*.mixal"), recursive=True))
-    return within + sorted(glob.glob(os.path.join(TOP, "examples", "*.mixal")))
-
-
-class Rows:
-    """Rows of which each has to be as it is wanted: they are counted, and the first few that are not are printed."""
-
-    def __init__(self, most=6):
-        self.passed = self.failed = 0
-        self.most = most
-
-    def __call__(self, name, found, want):
-        if found == want:
-            self.passed += 1
-            return
-        self.failed += 1
-        if self.failed < self.most:
-            print(f"FAILED {name}:\n  found  {found!r}\n  wanted {want!r}")
-
-    def end(self):
-        """Prints the counts: the status of the program."""
-        print(f"{self.passed} passed, {self.failed} failed")
-        return self.failed > 0
+    """The sources of course/ and examples/, each with its name."""
+    for path in (*sorted(TOP.glob("course/**/*.mixal")), *sorted(TOP.glob("examples/*.mixal"))):
+        yield str(path), path.read_bytes().decode()
 
 
 class Client:
@@ -48,8 +28,7 @@ class Client:
         self.tell("initialized", {})
 
     def send(self, message):
-        body = json.dumps(message).encode()
-        self.process.stdin.write(b"Content-Length: %d\r\n\r\n%s" % (len(body), body))
+        self.process.stdin.write(frame(json.dumps(message).encode()))
         self.process.stdin.flush()
 
     def hear(self):

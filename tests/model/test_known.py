@@ -8,6 +8,7 @@ import re
 
 import pytest
 
+from tests import rowfiles
 from tests.model import words as w
 from tests.model.answers import Request, answer
 from tests.model.assembler import Program, assemble, first_pass
@@ -121,10 +122,8 @@ KINDS = {
 
 
 def rows():
-    for number, line in enumerate((HERE / "known.rows").read_text().splitlines(), 1):
-        if line and line[0] != "#":
-            kind, *fields = line.split("|")
-            yield pytest.param(kind.strip(), fields, id=f"line {number} {kind.strip()}")
+    for number, kind, fields, wanted in rowfiles.rows_of(HERE / "known.rows"):
+        yield pytest.param(kind, [*fields, wanted], id=f"line {number} {kind}")
 
 
 @pytest.mark.parametrize("kind, fields", rows())
@@ -134,10 +133,8 @@ def test_row(kind, fields):
 
 
 def talks():
-    told = re.sub(r"(?m)^(.*) \{\*(\d+)\}\n", lambda found: f"{found[1]}\n" * int(found[2]), (HERE / "talks.txt").read_text())
-    for talk in re.split("^== ", told, flags=re.M)[1:]:
-        name, *lines = talk.rstrip("\n").split("\n")
-        yield pytest.param(lines, id=name)
+    for name, talk in rowfiles.parts(HERE / "talks.txt"):
+        yield pytest.param(talk.rstrip("\n").split("\n"), id=name)
 
 
 @pytest.mark.parametrize("lines", talks())

@@ -10,22 +10,13 @@ import tempfile
 
 import pytest
 
+from tests.rowfiles import params
 from tests.rows import decks, expression_rows, line_rows, mixal, operation_rows, sources, steps, stream_rows, tool, word_rows
 from tests.rows.faces import Program
 
 PARTS = (line_rows, word_rows, operation_rows, mixal, expression_rows, sources, stream_rows, steps, decks, tool)
 KINDS = {kind: answer for part in PARTS for kind, answer in part.KINDS.items()}
 NEED_CC = {*stream_rows.KINDS, "run printed", "tool plan"}
-
-
-def rows():
-    """Each row: its kind, the fields of its input, and what is wanted."""
-    for file in sorted(pathlib.Path(__file__).parent.glob("*.rows")):
-        for number, line in enumerate(file.read_text().split("\n"), 1):
-            if line and not line.startswith("#"):
-                kind, rest = line.split("|", 1)
-                given, wanted = rest.rsplit("|", 1)
-                yield pytest.param(kind.strip(), given.split("|"), wanted.strip(), id=f"{file.name}:{number} {kind.strip()}")
 
 
 @pytest.fixture(scope="module")
@@ -35,7 +26,7 @@ def shown(request):
         yield Program(request.config.getoption("--program"), folder)
 
 
-@pytest.mark.parametrize("kind, fields, wanted", rows())
+@pytest.mark.parametrize("kind, fields, wanted", params(pathlib.Path(__file__).parent))
 def test_row(shown, kind, fields, wanted):
     if kind in NEED_CC and not shutil.which("cc"):
         pytest.skip(f"{kind}: no C compiler is there")

@@ -8,8 +8,11 @@ import itertools
 import os
 import pathlib
 
-from tests.hostile.runner import BUNDLES, Count, Runner, bundle, folder, library, lines
-from tests.hostile.streams import T2, T3
+import pytest
+
+from tests import rowfiles
+from tests.hostile.inputs import BUNDLES, bundle, lines
+from tests.hostile.test_streams import T2, T3
 from tests.rows.faces import bytes_of
 
 ALL = 1 << 20  # more bytes than any of these runs reads or writes
@@ -18,8 +21,8 @@ SIZES = (1, 7, ALL)
 
 def rows_of(kind):
     """The rows of a kind in turned.rows, where `-` is nothing."""
-    lines = pathlib.Path(__file__).with_name("turned.rows").read_text().splitlines()
-    return [[None if field == "-" else bytes_of(field) for field in line.split("|")[1:]] for line in lines if line.startswith(f"{kind}|")]
+    found = rowfiles.rows_of(pathlib.Path(__file__).with_name("turned.rows"))
+    return [[None if field == "-" else bytes_of(field) for field in (*fields, last)] for _, name, fields, last in found if name == kind]
 
 
 LISTED = [(source, int(status), listing) for source, status, listing in rows_of("listed")]
@@ -36,8 +39,8 @@ HALTED = lines("ran 1 to 0001 clock 10: halt")
 class Turns:
     """Runs of a program behind the library."""
 
-    def __init__(self, program, place, count):
-        self.runner, self.library, self.place, self.count = Runner(program, place), library(place), place, count
+    def __init__(self, runner, library, place):
+        self.runner, self.library, self.place = runner, library, place
         self.told = os.path.join(place, "called")
 
     def file(self, name, text):
@@ -60,7 +63,7 @@ class Turns:
         """This read fails, of the input or of a file, which is told: nothing is written, and nothing is called after it."""
         answer, calls = self.run(text, words, read_most=1, read_fails=call)
         told = T2.replace(b"\n", b": %s\n" % file.encode()) if file else T2
-        self.count.same("%s: read %d fails" % (name, call), (answer, len(calls), calls[-1:]), ((b"", told, 2), call, ["read -1"]))
+        assert (answer, len(calls), calls[-1:]) == ((b"", told, 2), call, ["read -1"]), (name, call)
 
     def each_read_fails(self, name, words, parts):
         """Each read of some files fails in its turn; they are read one after the other."""
@@ -74,61 +77,65 @@ class Turns:
         (output, errors, status), calls = self.run(text, words, write_most=size, write_fails=call)
         failed = "write -1" in calls
         if not failed:
-            self.count.same("%s: %d writes of %d bytes" % (name, call - 1, size), (output, errors, status), wanted)
+            assert (output, errors, status) == wanted, (name, call - 1, size)
             return False
         written = sum(int(said.split()[1]) for said in calls[:-1] if said.startswith("write"))
-        self.count.same("%s: write %d of %d bytes fails" % (name, call, size), (output, errors, status, calls.count("write -1"), calls[-1]),
-                        (wanted[0][:written], T3, 2, 1, "write -1"))
+        assert (output, errors, status) == (wanted[0][:written], T3, 2), (name, call, size)
+        assert (calls.count("write -1"), calls[-1]) == (1, "write -1"), (name, call, size)
         return True
 
     def each_write_fails(self, name, text, words, wanted, sizes):
         for size in sizes:
             for call in itertools.count(1):
                 if not self.write_fails(name, text, words, wanted, size, call):
-                    self.count.row("%s: a write for each %d bytes" % (name, size), call > -(-len(wanted[0]) // size) or size == ALL, call)
+                    assert call > -(-len(wanted[0]) // size) or size == ALL, (name, size, call)
                     break
 
 
-def bundles(turns):
+@pytest.fixture
+def turns(runner, refuse, place):
+    return Turns(runner, refuse, place)
+
+
+def test_bundles(turns):
     for name, (source, deck, script, output) in BUNDLES["turns"].items():
         text, status = bundle(source, script, deck), 3 if b"? " in output else 0
         # a read for each byte, and one that finds the end
         for call in range(1, len(text) + 2):
             turns.read_fails(name, text, (), call)
         turns.each_write_fails(name, text, (), (output, b"", status), (1, 5, ALL))
-        turns.count.same(name + ", 7 bytes a read", turns.run(text, read_most=7)[0], (output, b"", status))
+        assert turns.run(text, read_most=7)[0] == (output, b"", status), name
 
 
-def sessions(turns):
+def test_sessions(turns):
     """The parts of a session, read one after the other, and none after a part that is refused."""
     source, deck, script = (turns.file(name, part) for name, part in zip(("source", "deck", "script"), PARTS))
     words = ["debug", source, script, "--devices", deck]
     reads = turns.each_read_fails("a session", words, zip((source, deck, script), PARTS))
     answer, calls = turns.run(b"", words, read_most=1)
-    turns.count.same("a session that is read byte by byte", (answer, len(calls)), ((HALTED, b"", 0), reads + 1))
+    assert (answer, len(calls)) == ((HALTED, b"", 0), reads + 1)
     for name, refused, units, wanted in [("source", b" JMP 0", b"", (b"line 2: A13 no END\n", b"", 1)),
                                          ("deck", b" END 0", b"\nX", (b"", b"mixrev: T5 deck refused at line 2: K1 bad header\n", 2))]:
         words = ["debug", turns.file("refused", refused), script, "--devices", turns.file("units", units)]
         answer, calls = turns.run(b"", words, read_most=1)
         reads = len(refused) + 1 + (len(units) + 1 if name == "deck" else 0)
-        turns.count.same("a %s that is refused: nothing is read after it" % name, (answer, sum(said.startswith("read") for said in calls)), (wanted, reads))
+        assert (answer, sum(said.startswith("read") for said in calls)) == (wanted, reads), name
 
 
-def listings(turns):
+def test_listings(turns):
     for k, (source, status, output) in enumerate(LISTED):
         words = ["list", turns.file("listed", source)]
         for size in SIZES:
-            turns.count.same("listing %d, %d bytes a call" % (k, size), turns.run(b"", words, read_most=size, write_most=size)[0], (output, b"", status))
+            assert turns.run(b"", words, read_most=size, write_most=size)[0] == (output, b"", status), (k, size)
     for source, whole, size, call, written in FAILED_LISTS:
         answer, calls = turns.run(b"", ["list", turns.file("listed", source)], write_most=size, write_fails=call)
-        turns.count.same("write %d of a listing fails, %d bytes a call" % (call, size), (answer, calls.count("write -1"), calls[-1]),
-                         ((whole[:written], T3, 2), 1, "write -1"))
+        assert (answer, calls.count("write -1"), calls[-1]) == ((whole[:written], T3, 2), 1, "write -1"), (call, size)
     for call in FAILED_READS:
         listed = turns.file("listed", INSERTED)
         turns.read_fails("a listing", b"", ["list", listed], call, listed)
 
 
-def printed(turns):
+def test_printed(turns):
     """Runs that print: what is printed, and what is told at the end, by so many bytes a call."""
     name = turns.file("a.mixal", b"")
 
@@ -139,24 +146,13 @@ def printed(turns):
     for k, row in enumerate(PRINTED):
         told = name.encode() + b":" + row[5].replace(b"a.mixal", name.encode()) if row[5] else b""
         for size in SIZES:
-            turns.count.same("run %d, %d bytes a call" % (k, size), turns.run(b"", words(row), read_most=size, write_most=size)[0],
-                             (row[4], told, 3 if told else 0))
+            assert turns.run(b"", words(row), read_most=size, write_most=size)[0] == (row[4], told, 3 if told else 0), (k, size)
     for k, (*row, told, status) in enumerate(REFUSED):
-        turns.count.same("refused run %d" % k, turns.run(b"", words(row))[0], (b"", told.replace(b"a.mixal", name.encode()), int(status)))
+        assert turns.run(b"", words(row))[0] == (b"", told.replace(b"a.mixal", name.encode()), int(status)), k
     copied = (COPIED[0], b"%UNIT 16\nONE\n", b"TWO\n", ["--steps", "100"])
     files = [os.path.join(turns.place, file) for file in ("a.mixal", "deck", "cards")]
     turns.each_read_fails("a run", words(copied), zip(files, copied[:3]))
-    turns.count.same("a run that is read byte by byte", turns.run(b"", words(copied), read_most=1)[0],
-                     (b"TWO\n", name.encode() + b":1: M11 no block at 0000 clock 3\n", 3))
+    assert turns.run(b"", words(copied), read_most=1)[0] == (b"TWO\n", name.encode() + b":1: M11 no block at 0000 clock 3\n", 3)
     for row in (PRINTED[0], COPIED):
         told = name.encode() + b":" + row[5] if row[5] else b""
         turns.each_write_fails("a run", b"", words(row), (row[4], told, 3 if told else 0), (1, 3, ALL))
-
-
-def rows(program, workers, quick=False):
-    count = Count()
-    with folder() as place:
-        turns = Turns(program, place, count)
-        for part in (bundles, sessions, listings, printed):
-            part(turns)
-    return count

@@ -15,8 +15,10 @@ What a command asks for is what a script asks for with it as the last line, beyo
 
 import os
 
-from tests.hostile.memory import EACH, FIRST
-from tests.hostile.runner import Count, Runner, folder, library, lines
+import pytest
+
+from tests.hostile.inputs import lines
+from tests.hostile.test_memory import EACH, FIRST
 
 LOOP = lines(" JMP *", " END 0")
 CELLS = 4000 * 4
@@ -75,8 +77,8 @@ STEPS = 100000
 class Asking:
     """Runs of a program, with the bytes of each allocation that it asks for."""
 
-    def __init__(self, program, place):
-        self.runner, self.library, self.told = Runner(program, place), library(place), os.path.join(place, "asked")
+    def __init__(self, runner, place, library):
+        self.runner, self.library, self.told = runner, library, os.path.join(place, "asked")
 
     def run(self, text):
         if os.path.exists(self.told):
@@ -101,35 +103,47 @@ def is_for_reply(asked, reply):
         len(reply) <= asked[-1] and sum(asked) < 4 * len(reply) + 8
 
 
-def rows(program, workers, quick=False):
-    count = Count()
-    with folder() as place:
-        asking = Asking(program, place)
-        for name, source, before, line, needed, reply in ROWS:
-            output, asked = asking.beyond(source, before, line)
-            may = needed if isinstance(needed, tuple) else (needed,)
-            good = asked is not None and any(sorted(asked[:len(some)]) == sorted(some) and is_for_reply(asked[len(some):], reply) for some in may)
-            count.row("%s: what it asks for" % name, good, "%s and not %s and a text of %d bytes" % (asked, needed, len(reply)))
-            count.same("%s: its reply" % name, output, reply)
-        _, asked = asking.run(lines(" END 0"))
-        count.row("a journal and a session ask for nothing: the cells are asked for last", asked[-1:] == [CELLS] and asked.count(CELLS) == 1, repr(asked))
-        for size in (8, 100, 1000, 4000):
-            _, less = asking.run(lines(" END 0").ljust(size, b"*"))
-            _, more = asking.run(lines(" END 0").ljust(size + 1, b"*"))
-            differ = [pair for pair in zip(less, more) if pair[0] != pair[1]]
-            count.same("what a read of %d bytes asks for, and of one more" % size, (differ, len(more)), ([(size, size + 1)], len(less)))
-        # many steps: each list is doubled, nothing else is asked for, and nothing is asked for
-        # again where it was asked for before
-        (_, _, _), asked = asking.run(LOOP + b"%%SCRIPT\nrun %d\n" % STEPS)
-        after = asked[asked.index(CELLS) + 1:]
-        wanted = [4 * RUN, *grown(UNIT, MOST, (STEPS - 1) + MOST)]
-        reply = b"ran %d to 0000 clock %d: limit\n" % (STEPS, STEPS)
-        rest = list(after)
-        for one in wanted:
-            if one in rest:
-                rest.remove(one)
-        count.row("%d steps ask for lists that are doubled" % STEPS, len(after) - len(rest) == len(wanted) and is_for_reply(rest, reply), repr(after))
-        _, asked = asking.beyond(LOOP, b"run %d\nback all\n" % STEPS, b"run %d" % STEPS)
-        count.row("and for nothing when they are done again", asked is not None and is_for_reply(asked, reply), repr(asked))
-        print("allocations: %d steps ask %d times, for %d bytes" % (STEPS, len(after), sum(after)))
-    return count
+@pytest.fixture
+def asking(runner, place, refuse):
+    return Asking(runner, place, refuse)
+
+
+@pytest.mark.parametrize("name, source, before, line, needed, reply", ROWS, ids=[row[0] for row in ROWS])
+def test_command(asking, name, source, before, line, needed, reply):
+    output, asked = asking.beyond(source, before, line)
+    assert asked is not None
+    for some in needed if isinstance(needed, tuple) else (needed,):
+        if sorted(asked[:len(some)]) == sorted(some) and is_for_reply(asked[len(some):], reply):
+            break
+    else:
+        raise AssertionError(f"{asked}, and not {needed} and a text of {len(reply)} bytes")
+    assert output == reply
+
+
+def test_cells_come_last(asking):
+    """A journal and a session ask for nothing: the cells are asked for last."""
+    _, asked = asking.run(lines(" END 0"))
+    assert asked[-1:] == [CELLS] and asked.count(CELLS) == 1
+
+
+@pytest.mark.parametrize("size", [8, 100, 1000, 4000])
+def test_read(asking, size):
+    """What a read of so many bytes asks for, and of one more."""
+    _, less = asking.run(lines(" END 0").ljust(size, b"*"))
+    _, more = asking.run(lines(" END 0").ljust(size + 1, b"*"))
+    assert [pair for pair in zip(less, more) if pair[0] != pair[1]] == [(size, size + 1)]
+    assert len(more) == len(less)
+
+
+def test_many_steps(asking):
+    """Each list is doubled, nothing else is asked for, and nothing again where it was before."""
+    _, asked = asking.run(LOOP + b"%%SCRIPT\nrun %d\n" % STEPS)
+    after = asked[asked.index(CELLS) + 1 :]
+    rest = list(after)
+    for one in [4 * RUN, *grown(UNIT, MOST, (STEPS - 1) + MOST)]:
+        assert one in rest, after
+        rest.remove(one)
+    reply = b"ran %d to 0000 clock %d: limit\n" % (STEPS, STEPS)
+    assert is_for_reply(rest, reply), after
+    _, asked = asking.beyond(LOOP, b"run %d\nback all\n" % STEPS, b"run %d" % STEPS)
+    assert asked is not None and is_for_reply(asked, reply)

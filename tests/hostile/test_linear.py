@@ -5,9 +5,14 @@ bytes that it asks for, after ten, a thousand and a million changes."""
 
 import os
 import re
+import shutil
 import subprocess
 
-from tests.hostile.runner import HERE, Count, bundle, folder, library, lines
+import pytest
+
+from tests.hostile.inputs import HERE, bundle, lines
+
+pytestmark = pytest.mark.skipif(not shutil.which("valgrind"), reason="what counts instructions, since there is no valgrind")
 
 # Twice, and a tenth for what is done once and for the lengths of numbers.
 MOST = 2.2
@@ -57,35 +62,32 @@ SIZES = (10, 1000, 1000000)
 MISTAKES = [("run N", "run 1", 1000), ("step N", "step", 1000), ("back N", "back 1", 1000), ("forth N", "forth 1", 1000), ("show clock", "back all", 1), ("show values", "show last 1", 1)]
 
 
-def rows(program, workers, quick=False):
-    count = Count()
-    with folder() as place:
-        for name, text, length in TEXTS:
-            one, two, four = (instructions(program, place, text(length * times)) for times in (1, 2, 4))
-            count.row(name, four - two <= MOST * (two - one), "%d, %d and %d instructions at %d, %d and %d" % (one, two, four, length, 2 * length, 4 * length))
-        table(program, place, count, SIZES[:2] if quick else SIZES)
-    return count
+@pytest.mark.parametrize("name, text, length", TEXTS, ids=[row[0] for row in TEXTS])
+def test_text(program, place, name, text, length):
+    one, two, four = (instructions(program, place, text(length * times)) for times in (1, 2, 4))
+    assert four - two <= MOST * (two - one)
 
 
-def table(program, place, count, sizes):
+@pytest.mark.parametrize("size", SIZES)
+def test_table(program, place, refuse, full, size):
     """What each command takes, by callgrind and by a library that notes what is asked for, each up to the write of its reply."""
+    if size == SIZES[-1] and not full:
+        pytest.skip("the costs after a million changes, which --full has")
     with open(os.path.join(place, "source"), "wb") as file:
         file.write(SOURCE)
     with open(os.path.join(HERE, "costs.txt")) as file:
         rows = [line for line in file.read().splitlines() if line[0] != "#"]
-    for size in sizes:
-        costs = [line[2:] for line in rows if line[0] == " " or size < SIZES[-1]]
-        names = [re.match(r"(.*?)  ", line)[1] for line in costs]
-        script = "".join(name.replace("N", str(size)).replace("M", str(size - 1)) + "\n" for name in names).encode()
-        found = zip(names, counted(program, place, script), asked(program, place, script))
-        taken, allowed = {}, {}
-        for line, (name, *took) in zip(costs, found):
-            most, more, bytes_most, bytes_more = map(int, line.split()[-4:])
-            taken[name], allowed[name] = took, [most + more * size, bytes_most + bytes_more * size]
-            for what, some, bound in zip(("instructions", "bytes"), took, allowed[name]):
-                count.row("%s, %d changes: %s" % (name, size, what), some <= bound, "%d, and not %d" % (some, bound))
-        for name, other, times in MISTAKES if size == 1000 else ():
-            count.row("%s by %s is seen" % (name, other), any(times * some > bound for some, bound in zip(taken[other], allowed[name])), "%s, and at most %s" % (taken[other], allowed[name]))
+    costs = [line[2:] for line in rows if line[0] == " " or size < SIZES[-1]]
+    names = [re.match(r"(.*?)  ", line)[1] for line in costs]
+    script = "".join(name.replace("N", str(size)).replace("M", str(size - 1)) + "\n" for name in names).encode()
+    found = zip(names, counted(program, place, script), asked(program, place, script, refuse))
+    taken, allowed = {}, {}
+    for line, (name, *took) in zip(costs, found):
+        most, more, bytes_most, bytes_more = map(int, line.split()[-4:])
+        taken[name], allowed[name] = took, [most + more * size, bytes_most + bytes_more * size]
+    assert {name: took for name, took in taken.items() if any(map(int.__gt__, took, allowed[name]))} == {}
+    for name, other, times in MISTAKES if size == 1000 else ():
+        assert any(times * some > bound for some, bound in zip(taken[other], allowed[name])), f"{name} by {other} is not seen"
 
 
 def counted(program, place, script):
@@ -96,10 +98,10 @@ def counted(program, place, script):
             yield int(re.search(r"^summary: (\d+)", file.read(), re.M)[1])
 
 
-def asked(program, place, script):
+def asked(program, place, script, library):
     """The bytes that are asked for between each write and the next."""
     told = os.path.join(place, "asked")
-    subprocess.run([program, "debug", "%s/source" % place], input=script, capture_output=True, env={**os.environ, "LD_PRELOAD": library(place), "ASKED_TO": told, "CALLED_TO": told})
+    subprocess.run([program, "debug", "%s/source" % place], input=script, capture_output=True, env={**os.environ, "LD_PRELOAD": library, "ASKED_TO": told, "CALLED_TO": told})
     with open(told) as file:
         parts = re.split(r"write .*\n", file.read())
     os.unlink(told)

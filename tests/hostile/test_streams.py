@@ -4,12 +4,14 @@ the reader of a pipe has gone, and what was written is a beginning of what is du
 import os
 import pty
 import shlex
-import shutil
 import subprocess
 import threading
 
-from tests.hostile.cuts import GREETED, HELLO
-from tests.hostile.runner import SECONDS, Count, bundle, folder, library, lines, takes_words
+import pytest
+
+from tests.hostile.inputs import bundle, lines
+from tests.hostile.test_cuts import GREETED, HELLO
+from tests.model.program import SECONDS
 
 TEXT = bundle(HELLO, GREETED)
 LONG = bundle(lines(" END 0"), lines(*["show cells 0 3999"] * 20))
@@ -59,7 +61,7 @@ def closed_pipe(program, name, taken):
         return begun, errors, child.wait(SECONDS)
 
 
-def calls(program, place, count):
+def test_calls(program, place, refuse):
     """How often a read and a write are called, by a library in front of the C library's."""
     told = os.path.join(place, "called")
     name = os.path.join(place, "calls")
@@ -67,16 +69,16 @@ def calls(program, place, count):
     def run(stdin):
         if os.path.exists(told):
             os.unlink(told)
-        answer = subprocess.run([program], stdin=stdin, capture_output=True, timeout=SECONDS, env={**os.environ, "LD_PRELOAD": library(place), "CALLED_TO": told})
+        answer = subprocess.run([program], stdin=stdin, capture_output=True, timeout=SECONDS, env={**os.environ, "LD_PRELOAD": refuse, "CALLED_TO": told})
         with open(told) as file:
             return (answer.stdout, answer.stderr, answer.returncode), file.read().splitlines()
 
     # nothing is there to be read yet, and the writer is still there: it is no end, and to try again
     # would be to wait
     ours, theirs = os.pipe2(os.O_NONBLOCK)
-    count.same("a read that would block", run(ours), ((b"", T2, 2), ["read -1"]))
+    assert run(ours) == ((b"", T2, 2), ["read -1"])
     os.write(theirs, TEXT)
-    count.same("a read that would block after some were good", run(ours), ((b"", T2, 2), ["read %d" % len(TEXT), "read -1"]))
+    assert run(ours) == ((b"", T2, 2), ["read %d" % len(TEXT), "read -1"])
     os.close(ours)
     os.close(theirs)
     # 22 bytes a cell, 1,200,036 bytes a full tape
@@ -87,11 +89,12 @@ def calls(program, place, count):
     with open(name, "rb") as file:
         (output, _, status), called = run(file)
     sizes = [2979 * 22, 1200036, len(output) - 2979 * 22 - 1200036]
-    count.same("replies of 64 KiB, of 1 MB and of over 4 MiB are each written by one call", ([line for line in called if line.startswith("write")], status, sizes[2] > 4 << 20),
-               (["write %d" % size for size in sizes], 0, True))
+    # replies of 64 KiB, of 1 MB and of over 4 MiB are each written by one call
+    assert [line for line in called if line.startswith("write")] == ["write %d" % size for size in sizes]
+    assert status == 0 and sizes[2] > 4 << 20
 
 
-def by_files(program, place, count):
+def test_files(program, place):
     """Files that cannot be opened or read, and outputs that fail, of a program that reads a command line."""
     source, script = os.path.join(place, "source"), os.path.join(place, "script")
     for name, text in [(source, HELLO), (script, GREETED)]:
@@ -111,10 +114,10 @@ def by_files(program, place, count):
             ("list $4", unread), ("debug $4 $2", unread), ("debug $1 $4", unread), ("debug $1 $2 --devices $4", unread), ("debug $4", unread),
             ("run $4", unread), ("run $1 --devices $4", unread), ("run $1 --cards $4", unread), ("check $1 $4 $4 $1", unread),
             ("check $1 $3", not_opened), ("check $1 /", is_folder), ("check - </dev/null >/dev/full", (b"", T3, 2)), ("check - </dev/null >&-", (b"", T3, 2))]:
-        count.same(command, shell('"$0" ' + command, program, source, [script, gone, memory]), wanted)
+        assert shell('"$0" ' + command, program, source, [script, gone, memory]) == wanted, command
 
 
-def full_disk(program, place, count):
+def test_full_disk(program, place):
     """A deck and a map on a disk that is full, and on one with room for a part of them: each is told, what was there stays, and nothing is left beside it."""
     small = os.path.join(place, "small")
     os.mkdir(small)
@@ -124,9 +127,9 @@ def full_disk(program, place, count):
         command = mounted % filled + run
         ran = subprocess.run(["unshare", "--mount", "--map-root-user", "/bin/bash", "-c", command, program, small], capture_output=True, timeout=SECONDS)
         if ran.returncode == 9 or b"unshare" in ran.stderr:
-            return
+            pytest.skip("a full disk, since none can be mounted here")
         told = b"".join(b"mixrev: T3 write failed: %s: No space left on device\n" % name for name in refused)
-        count.same("a disk with %d bytes of 16384 filled" % filled, (ran.stderr, ran.stdout.splitlines()), (told, [b"2", *there, b"OLD"]))
+        assert (ran.stderr, ran.stdout.splitlines()) == (told, [b"2", *there, b"OLD"]), filled
 
 
 READS = b" IN 100(16)\n END 0\n"
@@ -160,59 +163,77 @@ PLANS = [
     ("debug read.mixal folder", b"", 2, b"", b"T4 not opened: folder" + FOLDER)]
 
 
-def plans(program, place, count):
-    """What each plan comes to, and the same where what is told cannot be written."""
-    os.mkdir(os.path.join(place, "folder"))
-    for name, text in FILES.items():
-        with open(os.path.join(place, name), "wb") as file:
-            file.write(text)
-    for words, text, status, output, told in PLANS:
-        for errors, more in ((subprocess.PIPE, told and b"mixrev: %s\n" % told), (open("/dev/full", "wb"), None)):
-            ran = subprocess.run([program, *shlex.split(words)], input=text, stdout=subprocess.PIPE, stderr=errors, cwd=place, timeout=SECONDS)
-            count.same("%r, %s" % (words, "told" if errors == subprocess.PIPE else "untold"), (ran.returncode, ran.stdout, ran.stderr), (status, output, more))
-    # the program's own name is no subcommand
+@pytest.mark.parametrize("words, text, status, output, told", PLANS)
+def test_plan(program, tmp_path, words, text, status, output, told):
+    """What a plan comes to, and the same where what is told cannot be written."""
+    (tmp_path / "folder").mkdir()
+    for name, contents in FILES.items():
+        (tmp_path / name).write_bytes(contents)
+    for errors, more in ((subprocess.PIPE, told and b"mixrev: %s\n" % told), (open("/dev/full", "wb"), None)):
+        ran = subprocess.run([program, *shlex.split(words)], input=text, stdout=subprocess.PIPE, stderr=errors, cwd=tmp_path, timeout=SECONDS)
+        assert (ran.returncode, ran.stdout, ran.stderr) == (status, output, more)
+
+
+def test_name(program):
+    """The program's own name is no subcommand."""
     ran = subprocess.run(["list"], executable=program, input=STEPS, capture_output=True, timeout=SECONDS)
-    count.same("a program by the name of list", (ran.stdout, ran.stderr, ran.returncode), (b"ran 1 to 0001 clock 10: halt\n", b"", 0))
+    assert (ran.stdout, ran.stderr, ran.returncode) == (b"ran 1 to 0001 clock 10: halt\n", b"", 0)
 
 
-def rows(program, workers, quick=False):
-    count = Count()
-    with folder() as place:
-        name, long = os.path.join(place, "bundle"), os.path.join(place, "long")
-        for file, text in [(name, TEXT), (long, LONG)]:
-            with open(file, "wb") as written:
-                written.write(text)
-        wanted, much = due(program, name), due(program, long)
-        count.row("the bundle as it is", wanted.startswith(b"ran 2 to 1002 clock 11: halt\n"))
+# A command of the shell, in which $0 is the program and $1 a bundle, and what it comes to; None is what is due.
+COMMANDS = [
+    ('"$0" <"$1" >/dev/full', (b"", T3, 2)),
+    ('"$0" <"$1" >/dev/full 2>/dev/full', (b"", b"", 2)),
+    ('"$0" <"$1" 2>/dev/full', (None, b"", 0)),
+    ('"$0" <"$1" >&-', (b"", T3, 2)),
+    ('"$0" <"$1" >&- 2>&-', (b"", b"", 2)),
+    ('"$0" <&-', (b"", T2, 2)),
+    ('"$0" <&- >&- 2>&-', (b"", b"", 2)),
+    ('"$0" </', (b"", T2, 2)),
+    ('"$0" <"$1" 1</dev/null', (b"", T3, 2)),
+    ('"$0" 0>>"$1.empty"', (b"", T2, 2)),
+    ('"$0" </dev/null', (b"line 1: A13 no END\n", b"", 1)),
+    ('cp "$1" "$1.2"; exec <"$1.2"; rm "$1.2"; "$0"', (None, b"", 0)),
+]
 
-        count.same("a full disk", shell('"$0" <"$1" >/dev/full', program, name), (b"", T3, 2))
-        count.same("a full disk for errors too", shell('"$0" <"$1" >/dev/full 2>/dev/full', program, name), (b"", b"", 2))
-        count.same("a full disk for errors alone", shell('"$0" <"$1" 2>/dev/full', program, name), (wanted, b"", 0))
-        count.same("a closed output", shell('"$0" <"$1" >&-', program, name), (b"", T3, 2))
-        count.same("a closed output and closed errors", shell('"$0" <"$1" >&- 2>&-', program, name), (b"", b"", 2))
-        count.same("a closed input", shell('"$0" <&-', program, name), (b"", T2, 2))
-        count.same("all closed", shell('"$0" <&- >&- 2>&-', program, name), (b"", b"", 2))
-        count.same("a folder as input", shell('"$0" </', program, name), (b"", T2, 2))
-        count.same("an output open for reading alone", shell('"$0" <"$1" 1</dev/null', program, name), (b"", T3, 2))
-        count.same("an input open for writing alone", shell('"$0" 0>>"$1"', program, os.path.join(place, "empty")), (b"", T2, 2))
-        count.same("an empty input", shell('"$0" </dev/null', program, name), (b"line 1: A13 no END\n", b"", 1))
-        count.same("a file taken away before it is read", shell('cp "$1" "$1.2"; exec <"$1.2"; rm "$1.2"; "$0"', program, name), (wanted, b"", 0))
 
-        count.same("| head -c 5", shell('"$0" <"$1" | head -c 5', program, long), (much[:5], b"", 2))
-        for taken in (0, 5, 4096, 70000):
-            begun, errors, status = closed_pipe(program, long, taken)
-            count.same("a reader that takes %d bytes and goes" % taken, (begun, errors, status), (much[:taken], b"", 2))
+@pytest.fixture
+def named(place):
+    """The name of a file with the bundle, or with one whose replies are long."""
+    def written(text=TEXT):
+        with open(os.path.join(place, "bundle"), "wb") as file:
+            file.write(text)
+        return file.name
 
-        if takes_words(program):
-            by_files(program, place, count)
-            plans(program, place, count)
-            full_disk(program, place, count)
-        if shutil.which("cc"):
-            calls(program, place, count)
-        for text in (b" END 0\n", TEXT) if os.path.exists("/dev/ptmx") else ():
-            count.same("a terminal that goes away", vanishing_terminal(program, text), (b"", T2.replace(b"\n", b": -\n"), 2))
-        for at, answer in [(0, (b"line 1: A13 no END\n", b"", 1)), (len(HELLO) - 6, (b"line 9: A13 no END\n", b"", 1))]:
-            got = vanishing_writer(program, TEXT, at)
-            count.row("a writer that ends after %d bytes" % at, got[2] in (0, 1) and got[1] == b"" and (at or got == answer), repr(got))
-        count.same("a writer that ends in the script", vanishing_writer(program, TEXT, TEXT.index(b"show unit")), (wanted.split(b"\n")[0] + b"\n", b"", 0))
-    return count
+    return written
+
+
+@pytest.mark.parametrize("command, wanted", COMMANDS)
+def test_command(program, named, command, wanted):
+    name = named()
+    output = due(program, name)
+    assert output.startswith(b"ran 2 to 1002 clock 11: halt\n")
+    assert shell(command, program, name) == (output if wanted[0] is None else wanted[0], *wanted[1:])
+
+
+@pytest.mark.parametrize("taken", [0, 5, 4096, 70000])
+def test_reader_that_goes(program, named, taken):
+    name = named(LONG)
+    much = due(program, name)
+    assert closed_pipe(program, name, taken) == (much[:taken], b"", 2)
+    assert shell('"$0" <"$1" | head -c 5', program, name) == (much[:5], b"", 2)
+
+
+@pytest.mark.skipif(not os.path.exists("/dev/ptmx"), reason="a terminal that goes away, since there is none")
+@pytest.mark.parametrize("text", [b" END 0\n", TEXT])
+def test_vanishing_terminal(program, text):
+    assert vanishing_terminal(program, text) == (b"", T2.replace(b"\n", b": -\n"), 2)
+
+
+def test_vanishing_writer(program, named):
+    """Standard input is a pipe whose writer ends at once, in the source, or in the script."""
+    assert vanishing_writer(program, TEXT, 0) == (b"line 1: A13 no END\n", b"", 1)
+    _, errors, status = vanishing_writer(program, TEXT, len(HELLO) - 6)
+    assert status in (0, 1) and errors == b""
+    first = due(program, named()).split(b"\n")[0] + b"\n"
+    assert vanishing_writer(program, TEXT, TEXT.index(b"show unit")) == (first, b"", 0)

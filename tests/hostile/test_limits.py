@@ -3,7 +3,10 @@
 import os
 import subprocess
 
-from tests.hostile.runner import SECONDS, Count, Runner, bundle, folder, lines, takes_words
+import pytest
+
+from tests.hostile.inputs import bundle, lines
+from tests.model.program import SECONDS
 
 SOURCE, SCRIPT, DECK, BUNDLE = 1048576, 1048576, 33554432, 41943040
 END = b" END 0\n"
@@ -20,46 +23,44 @@ def filled(text, size, by=b"*"):
     return text + (by * 99 + b"\n") * (rest // 100) + by * (rest % 100)
 
 
-def endless(program, count):
+def fed(command, *words):
+    """The answer of a run that reads what a command of the shell writes."""
+    feeder = subprocess.Popen(["/bin/sh", "-c", command], stdout=subprocess.PIPE, stderr=subprocess.DEVNULL)
+    answer = subprocess.run(words, stdin=feeder.stdout, capture_output=True, timeout=SECONDS)
+    feeder.stdout.close()
+    feeder.wait(SECONDS)
+    return answer.stdout, answer.stderr, answer.returncode
+
+
+@pytest.mark.parametrize("command", [
+    "exec cat /dev/zero", "exec yes", "exec yes ''", "printf ' END 0\\n%%SCRIPT\\n'; exec yes step"])
+def test_endless(program, command):
     """Readers that never end: the program stops at its limit, and says so."""
-    for name, command, most in [
-            ("/dev/zero", "exec cat /dev/zero", None), ("yes", "exec yes", None), ("blank lines", "exec yes ''", None),
-            ("a script that never ends", "printf ' END 0\\n%%SCRIPT\\n'; exec yes step", None)]:
-        feeder = subprocess.Popen(["/bin/sh", "-c", command], stdout=subprocess.PIPE, stderr=subprocess.DEVNULL)
-        answer = subprocess.run([program], stdin=feeder.stdout, capture_output=True, timeout=SECONDS)
-        feeder.stdout.close()
-        feeder.wait(SECONDS)
-        count.same(name, (answer.stdout, answer.stderr, answer.returncode), T6)
-    with open("/dev/zero", "rb") as zero:
-        answer = subprocess.run([program], stdin=zero, capture_output=True, timeout=SECONDS)
-    count.same("/dev/zero itself", (answer.stdout, answer.stderr, answer.returncode), T6)
-    if takes_words(program):
-        endless_files(program, count)
-    with folder() as place:
-        name = os.path.join(place, "long")
-        with open(name, "wb") as file:
-            file.truncate(10 * BUNDLE)
-        with open(name, "rb") as file:
-            answer = subprocess.run([program], stdin=file, capture_output=True, timeout=SECONDS)
-            taken = os.lseek(file.fileno(), 0, os.SEEK_CUR)
-        count.same("ten times the limit", (answer.stdout, answer.stderr, answer.returncode), T6)
-        count.same("bytes that were taken of it", taken, BUNDLE + 1)
+    assert fed(command, program) == T6
 
 
-def endless_files(program, count):
+def test_endless_file(runner, place):
+    assert runner.run_on("/dev/zero") == T6
+    name = os.path.join(place, "long")
+    with open(name, "wb") as file:
+        file.truncate(10 * BUNDLE)
+    with open(name, "rb") as file:
+        answer = subprocess.run([runner.program], stdin=file, capture_output=True, timeout=SECONDS)
+        taken = os.lseek(file.fileno(), 0, os.SEEK_CUR)
+    assert (answer.stdout, answer.stderr, answer.returncode) == T6
+    assert taken == BUNDLE + 1
+
+
+@pytest.mark.parametrize("words, wanted", [
+    ("list /dev/stdin", (b"line 1: A16 source too long\n", b"", 1)), ("debug source /dev/stdin", T6),
+    ("run source --cards /dev/stdin", refused_deck(1, b"K9 deck too long")),
+    ("run source --typewriter /dev/stdin", refused_deck(1, b"K9 deck too long"))])
+def test_endless_files(program, place, monkeypatch, words, wanted):
     """Files that never end, of blank lines: a source, a script, cards, lines for the typewriter."""
-    with folder() as place:
-        source = os.path.join(place, "source")
-        with open(source, "wb") as file:
-            file.write(b" END 0")
-        for words, wanted in [(["list", "/dev/stdin"], (b"line 1: A16 source too long\n", b"", 1)), (["debug", source, "/dev/stdin"], T6),
-                              (["run", source, "--cards", "/dev/stdin"], refused_deck(1, b"K9 deck too long")),
-                              (["run", source, "--typewriter", "/dev/stdin"], refused_deck(1, b"K9 deck too long"))]:
-            feeder = subprocess.Popen(["yes", ""], stdout=subprocess.PIPE, stderr=subprocess.DEVNULL)
-            answer = subprocess.run([program, *words], stdin=feeder.stdout, capture_output=True, timeout=SECONDS)
-            feeder.stdout.close()
-            feeder.wait(SECONDS)
-            count.same("%s of blank lines without an end" % words[0], (answer.stdout, answer.stderr, answer.returncode), wanted)
+    monkeypatch.chdir(place)
+    with open("source", "wb") as file:
+        file.write(b" END 0")
+    assert fed("exec yes ''", program, *words.split()) == wanted
 
 
 def sizes():
@@ -200,17 +201,12 @@ def by_files(place):
             yield ["debug", files[0], files[1], "--devices", files[2]], wanted if over else clock
 
 
-def rows(program, workers, quick=False):
-    count = Count()
-    endless(program, count)
-    if takes_words(program):
-        with folder() as place, folder() as other:
-            runner = Runner(program, other)
-            for words, wanted in by_files(place):
-                count.same(" ".join(words), runner.run(b"", words), wanted)
-    with folder() as place:
-        runner = Runner(program, place)
-        for part in (sizes, counts, refused_decks, full_units, written_units):
-            for name, text, wanted in part():
-                count.same(name, runner.run(text), wanted)
-    return count
+def test_files(runner, place):
+    for words, wanted in by_files(place):
+        assert runner.run(b"", words) == wanted, words
+
+
+@pytest.mark.parametrize("part", [sizes, counts, refused_decks, full_units, written_units])
+def test_limits(runner, part):
+    for name, text, wanted in part():
+        assert runner.run(text) == wanted, name

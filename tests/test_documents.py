@@ -1,20 +1,16 @@
-#!/usr/bin/env -S sh -c 'exec "${0%/*}/python" "$0" "$@"'
 """Runs what the documents show and compares what is written with what they say.
 
 - A block of MIX is a bundle. The block of text after it is its output; a sentence between them may name the status.
 - A row of a table that has a cell headed "Input", "Script", "Small input" or "Small script" is a run too.
   An input is the format of printf; a script without an input stands after the source " END".
-- A row that has a cell headed "Checked" is a check of that source, the format of printf. The cell "Reported" has each line, column and text.
-The last line counts."""
-import argparse
+- A row that has a cell headed "Checked" is a check of that source, the format of printf. The cell "Reported" has each line, column and text."""
 import pathlib
 import re
 import subprocess
-import sys
 
+import pytest
 
-from tests.tally import Count
-
+TOP = pathlib.Path(__file__).resolve().parent.parent
 PAIR = re.compile(r"```mix\n(.*?)```(.*?)```text\n(.*?)```", re.S)
 CODE = re.compile(r"`([^`]+)`")
 ESCAPES = {"n": "\n", "r": "\r", "f": "\f", "t": "\t", "%": "%"}
@@ -100,23 +96,18 @@ def in_blocks(text):
         yield line, bundle, (lambda wrote, output=output: wrote == output), status_of(between)
 
 
-def ran_on_bundle(program, bundle, *words):
-    return subprocess.run([program, *words], input=bundle.encode(), capture_output=True)
-
-
-def main():
-    parser = argparse.ArgumentParser(description=__doc__, formatter_class=argparse.RawDescriptionHelpFormatter)
-    parser.add_argument("program", type=lambda name: pathlib.Path(name).resolve())
-    program, count = parser.parse_args().program, Count()
-    top = pathlib.Path(__file__).resolve().parent.parent
-    for path in sorted([*top.glob("docs/*.md"), top / "examples" / "README.md"]):
+def runs():
+    """Each run of each document: its words, its input, the test of its output, and its status."""
+    for path in (*sorted(TOP.glob("docs/*.md")), TOP / "examples" / "README.md"):
         text = path.read_text()
-        runs = [(line, ran_on_bundle(program, bundle), is_right, status) for line, bundle, is_right, status in (*in_blocks(text), *in_tables(text))]
-        runs += [(line, ran_on_bundle(program, source, "check", "-"), is_right, None) for line, source, is_right in with_reports(text)]
-        for line, ran, is_right, status in runs:
-            wrote = (ran.stdout + ran.stderr).decode()
-            count.row(f"{path.name}:{line}", is_right(wrote) and status in (None, ran.returncode), f"it writes, with status {ran.returncode}:\n{wrote}")
-    return count.ended()
+        for line, *run in (*in_blocks(text), *in_tables(text)):
+            yield pytest.param([], *run, id=f"{path.name}:{line}")
+        for line, *run in with_reports(text):
+            yield pytest.param(["check", "-"], *run, None, id=f"{path.name}:{line}")
 
 
-sys.exit(main())
+@pytest.mark.parametrize("words, given, is_right, status", runs())
+def test_run(program, words, given, is_right, status):
+    ran = subprocess.run([program, *words], input=given.encode(), capture_output=True)
+    wrote = (ran.stdout + ran.stderr).decode()
+    assert is_right(wrote) and status in (None, ran.returncode), (ran.returncode, wrote)

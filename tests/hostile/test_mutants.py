@@ -1,15 +1,14 @@
 """Bundles that are the examples and those of tests/runs/ with mistakes in them: bits flipped, lines doubled, cut, and spliced. The program against
 the model."""
 
-import concurrent.futures
-import multiprocessing
 import pathlib
 import random
 import signal
 
-from tests.hostile.cuts import DECK, GREETED, HELLO, READ, READS
-from tests.hostile.runner import TOP, Count, Endless, Runner, bundle, folder, lines, ring
+import pytest
 
+from tests.hostile.inputs import TOP, bundle, lines
+from tests.hostile.test_cuts import DECK, GREETED, HELLO, READ, READS
 from tests.model import bundle as model
 from tests.runs.bundles import bundles
 
@@ -104,50 +103,30 @@ def number(draw, text, texts):
 CHANGES = [flip, byte, lines_changed, cut, spliced, word, number]
 
 
+def ring(*_):
+    raise TimeoutError
+
+
 def model_of(text):
     """What the model gives, or None where it takes too long."""
     signal.signal(signal.SIGVTALRM, ring)
     signal.setitimer(signal.ITIMER_VIRTUAL, MODEL_SECONDS)
     try:
         return model.run(text)
-    except (Endless, MemoryError, RecursionError):
+    except (TimeoutError, MemoryError, RecursionError):
         return None
     finally:
         signal.setitimer(signal.ITIMER_VIRTUAL, 0)
 
 
-def some(program, seed, numbers):
-    texts, failures, compared, statuses = originals(), [], 0, [0, 0, 0, 0]
-    with folder() as place:
-        runner = Runner(program, place)
-        for k in numbers:
-            text = mutant(texts, seed, k)
-            found = runner.run(text)
-            if found[2] in (0, 1, 2, 3):
-                statuses[found[2]] += 1
-            else:
-                failures.append(("mutant %d" % k, found, "status 0 to 3"))
-                continue
-            wanted = model_of(text)
-            if wanted is not None:
-                compared += 1
-                if wanted != found:
-                    failures.append(("mutant %d" % k, found, wanted))
-    return failures, compared, statuses
-
-
-def rows(program, workers, quick=False, seed="0", number=None):
-    count, compared, statuses = Count(), 0, [0, 0, 0, 0]
-    number = number or (500 if quick else 10000)
-    parts = 10 * workers
-    with concurrent.futures.ProcessPoolExecutor(workers, multiprocessing.get_context("fork")) as pool:
-        given = [(program, seed, range(k, number, parts)) for k in range(parts)]
-        for failures, some_compared, some_statuses in pool.map(some, *zip(*given)):
-            compared += some_compared
-            statuses = [a + b for a, b in zip(statuses, some_statuses)]
-            for name, found, wanted in failures:
-                count.same("%s of seed %s" % (name, seed), found, wanted)
-    count.passed = number - count.failed
-    print("mutants: seed %s, %d of them, %d compared with the model; with status 0, 1, 2 and 3: %d, %d, %d, %d" % (
-        (seed, number, compared) + tuple(statuses)))
-    return count
+@pytest.mark.parametrize("part", range(20))
+def test_mutants(runner, request, full, part):
+    number = request.config.getoption("--examples") or (10000 if full else 500)
+    seed, texts, compared = request.config.getoption("hypothesis_seed") or 0, originals(), 0
+    for k in range(part, number, 20):
+        text = mutant(texts, seed, k)
+        found, wanted = runner.run(text), model_of(text)
+        assert found[2] in (0, 1, 2, 3), f"mutant {k} of seed {seed}"
+        assert wanted in (None, found), f"mutant {k} of seed {seed}"
+        compared += wanted is not None
+    assert compared or number < 20

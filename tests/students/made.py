@@ -1,19 +1,16 @@
-#!/usr/bin/env -S sh -c 'exec "${0%/*}/../python" "$0" "$@"'
 """Makes a class that did three exercises of the course.
 
-For each of three lessons FOLDER/LESSON has what course/variant writes for its share of the students, and their sources: right ones of several
+For each of three lessons a folder has what course/variant writes for its share of the students, and their sources: right ones of several
 kinds, slow ones, wrong ones, and copies of each of these that is not refused, with other names, remarks, spaces and places in memory; some copiers also
 put in a NOP that is executed once.
 FOLDER/known says what each must get: `right` passes all cases, `slow` all but that of the limits, `wrong` not even these; a copy gets what its original
 gets, and is followed by the name of it. No verdict comes from a run."""
-import argparse
 import pathlib
 import random
 import re
-import sys
-
 
 import variants
+from tests.rowfiles import parts
 
 NAMES = "ABER AGAIN BACK BIG CELL CHECK DOWN EMPTY ENDE FERTIG FIRST FORTH FULL GO1 HERE ITEM KEEP LOOP MORE NEXT9 OVER PASS PUT2 Q7 RUN SKIP STOP T1 UP".split()
 REMARKS = "the next one|is it the last?|not yet|one less|one more|keep it|go on|this took me a whole night|as on page 145|round again|done".split("|")
@@ -23,8 +20,7 @@ EXPECTED = ["right"] * 50 + ["slow"] * 12 + ["wrong"] * 18 + ["copy"] * 20
 def programs():
     """Of each lesson its right programs, slow ones, and mistakes."""
     found = {}
-    for part in (pathlib.Path(__file__).resolve().parent / "programs.txt").read_text().split("\n== ")[1:]:
-        head, _, body = part.partition("\n")
+    for head, body in parts(pathlib.Path(__file__).with_name("programs.txt")):
         lesson, kind = head.split()
         mistakes = [[words.strip() for words in line.split("=>")] for line in body.splitlines()]
         found.setdefault(lesson, {"right": [], "slow": [], "wrong": []})[kind] += mistakes if kind == "wrong" else [body]
@@ -72,17 +68,12 @@ def given_lines(exercise, student):
     return [line for line in bundle.source[: end + 1] if line.startswith(("* data", "* end")) or not line.startswith("*")]
 
 
-def main():
-    parser = argparse.ArgumentParser(description=__doc__, formatter_class=argparse.RawDescriptionHelpFormatter)
-    parser.add_argument("folder", type=pathlib.Path)
-    parser.add_argument("number", type=int, nargs="?", default=200, help="how many students there are (200)")
-    parser.add_argument("seed", nargs="?", default="1")
-    asked = parser.parse_args()
-    number, rng = asked.number, random.Random(asked.seed)
-    known, lessons = [], programs()
+def make(place, number, seed):
+    """Makes the folder of each lesson in a place: of each student what the marks must be, and whose copy the source is."""
+    rng, known, lessons = random.Random(seed), {}, programs()
     for at, (name, kinds) in enumerate(lessons.items()):
         exercise = next(one for one in variants.ALL if one.name == name)
-        folder, made = asked.folder / name, []
+        folder, made, known[name] = place / name, [], []
         (folder / "sources").mkdir(parents=True)
         for k in range(at, number, len(lessons)):
             student = f"s{k:03}"
@@ -99,10 +90,5 @@ def main():
                     made.append((student, expected, lines))
             variants.write(folder, exercise, student, f"secret {k}")
             (folder / "sources" / f"{student}.mixal").write_text(source(rng, lines, given_lines(exercise, student)))
-            known.append(f"{name} {student} {expected} {origin}".rstrip())
-    (asked.folder / "known").write_text("".join(f"{line}\n" for line in known))
-    print(f"{len(known)} sources, of which {sum(len(line.split()) == 4 for line in known)} are copies")
-    return 0
-
-
-sys.exit(main())
+            known[name].append((student, expected, origin))
+    return known

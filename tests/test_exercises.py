@@ -1,21 +1,19 @@
-#!/usr/bin/env -S sh -c 'exec "${0%/*}/python" "$0" "$@"'
 """Tries the cases of the exercises of the course.
 
 The exercise's own answer has to pass each case. It has to fail one with one instruction changed, each of several ways; so has the program of the lesson
 itself. A program that only stores what is wanted in its own case gets half of the points at most. tests/exercises.txt has other programs, and says what
-each of them must get. They are the cases of a student whose ID is the word SEED of the environment, or ada. A small source first tries what a case can
-ask of cells, data and limits. A line for each program, and last how many passed."""
-import argparse
-import concurrent.futures
+each of them must get. They are the cases of a student whose ID is the word SEED of the environment, or ada. A small source tries what a case can
+ask of cells, data and limits."""
 import os
 import pathlib
 import re
 import subprocess
-import sys
-import tempfile
+
+import pytest
 
 import variants
 from running import COURSE
+from tests.rowfiles import parts
 
 TOP = pathlib.Path(__file__).resolve().parent.parent
 
@@ -50,6 +48,7 @@ FORMS = [
     ({"cells": "SUM\n", "wanted": "6\n", "steps": "5\n"}, "no halt: limit at 0002 clock 5"),
 ]
 
+STUDENT = os.environ.get("SEED", "ada")
 REGISTERS = ["A", "X", "I1", "I2", "I3", "I4", "I5", "I6", "J"]
 SLOW = ("04", "60")  # the lesson's program does the same as the exercise, and takes longer
 # What a program must get: of the cases that it fails, of its points and of all points.
@@ -62,18 +61,21 @@ MUST = {
 }
 
 
-def forms(folder):
-    """The reasons that differ from those that must be given."""
-    (folder / "small.mixal").write_text(SMALL)
-    for at, (files, reason) in enumerate(FORMS):
-        case = folder / f"form_{at}"
-        case.mkdir()
-        for name, text in files.items():
-            (case / name).write_text(text)
-        said = subprocess.run([TOP / "grade/case", folder / "small.mixal", case], capture_output=True, text=True)
-        wanted = f"not ok - {folder}/small.mixal {case}: {reason}\n" if reason else f"ok - {folder}/small.mixal {case}\n"
-        if said.stdout != wanted:
-            yield f"{files}: {said.stdout}{said.stderr}, and not {wanted}"
+@pytest.fixture(autouse=True)
+def graded(program, monkeypatch):
+    """What grades takes this program."""
+    monkeypatch.setenv("MIXREV", program)
+
+
+@pytest.mark.parametrize("files, reason", FORMS)
+def test_form(tmp_path, files, reason):
+    source, case = tmp_path / "small.mixal", tmp_path / "form"
+    source.write_text(SMALL)
+    case.mkdir()
+    for name, text in files.items():
+        (case / name).write_text(text)
+    said = subprocess.run([TOP / "grade/case", source, case], capture_output=True, text=True)
+    assert said.stdout == (f"not ok - {source} {case}: {reason}\n" if reason else f"ok - {source} {case}\n")
 
 
 def edited(bundle, edits):
@@ -113,8 +115,8 @@ def constants(exercise, case):
 
 def rows(exercise, case):
     """The programs of tests/exercises.txt for an exercise: each as what it must get, its words and its source."""
-    for part in (TOP / "tests/exercises.txt").read_text().split("\n== ")[1:]:
-        (name, must), words, body = *[part.partition(":")[0].split()], part.partition("\n")[0].partition(": ")[2], part.partition("\n")[2]
+    for head, body in parts(TOP / "tests/exercises.txt"):
+        (name, must), words = head.partition(":")[0].split(), head.partition(": ")[2]
         if name == exercise.name:
             yield must, words, edited(variants.answer(exercise, case), body.splitlines()).text() if "=>" in body else body
 
@@ -138,53 +140,40 @@ def attempts(exercise, case):
     yield from rows(exercise, case)
 
 
-def judged(folder, exercise, weights, source, must, words):
-    """The line of a program, whether it gets what it must, and its verdicts if not."""
+@pytest.fixture(scope="module")
+def written(tmp_path_factory):
+    """Writes the cases of an exercise: their folder, and the weight of each."""
+    folder = tmp_path_factory.mktemp("exercises")
+
+    def cases(exercise):
+        if not (folder / exercise.name).exists():
+            variants.write(folder / exercise.name, exercise, STUDENT, "a secret")
+        weights = variants.cases_of(exercise, STUDENT, "a secret")
+        return folder / exercise.name, {name: weight for name, (_, _, weight) in weights.items()}
+
+    return cases
+
+
+def all_attempts():
+    for exercise in variants.ALL:
+        case = variants.cases_of(exercise, STUDENT, "a secret")["1_own"][0]
+        for must, words, text in attempts(exercise, case):
+            yield pytest.param(exercise, must, text, id=f"{exercise.name}: {words}")
+
+
+@pytest.mark.parametrize("exercise, must, text", all_attempts())
+def test_attempt(written, tmp_path, exercise, must, text):
+    folder, weights = written(exercise)
+    source = tmp_path / f"{STUDENT}.mixal"
+    source.write_text(text.partition("%DEVICES")[0])
     ran = subprocess.run([TOP / "grade/cases", folder / "cases", source], capture_output=True, text=True)
     verdicts = [line for line in ran.stdout.splitlines() if "ok - " in line]
     failed = [name for name in weights if not any(line.startswith("ok") and line.endswith(f"/{name}") for line in verdicts)]
     most = sum(weights.values())
     points = most - sum(weights[name] for name in failed)
-    why = next((line.partition(": ")[2] for line in verdicts if line.startswith("not ok")), "")
-    good = len(verdicts) == len(weights) and not ran.stderr and MUST[must](failed, points, most)
-    return f"{exercise.name}: {words}: {points} of {most} points{f', {why}' if why else ''}", good, [f"must get: {must}", *verdicts, ran.stderr.strip()]
+    assert len(verdicts) == len(weights) and not ran.stderr and MUST[must](failed, points, most), f"{points} of {most} points: {ran.stdout}"
 
 
-def main():
-    parser = argparse.ArgumentParser(description=__doc__, formatter_class=argparse.RawDescriptionHelpFormatter)
-    parser.add_argument("program", type=os.path.realpath)
-    parser.add_argument("lessons", nargs="*", metavar="lesson", help="the beginning of its name; all where none is named")
-    asked = parser.parse_args()
-    os.environ["MIXREV"] = asked.program
-    student = os.environ.get("SEED", "ada")
-    chosen = [exercise for exercise in variants.ALL if not asked.lessons or exercise.name.startswith(tuple(asked.lessons))]
-    missing = sorted({path.parent.name for path in COURSE.glob("[0-9]*/answer.mixal")} - {exercise.name for exercise in variants.ALL})
-    passed = failed = 0
-    with tempfile.TemporaryDirectory() as folder, concurrent.futures.ThreadPoolExecutor(os.cpu_count()) as pool:
-        here, jobs = pathlib.Path(folder), []
-        if not asked.lessons:
-            differing = list(forms(here))
-            print("".join(f"{line}\n" for line in differing), end="")
-            passed, failed = len(FORMS) - len(differing), len(differing)
-        for exercise in chosen:
-            variants.write(here / exercise.name, exercise, student, "a secret")
-            cases = variants.cases_of(exercise, student, "a secret")
-            weights = {name: weight for name, (_, _, weight) in cases.items()}
-            for at, (must, words, text) in enumerate(attempts(exercise, cases["1_own"][0])):
-                source = here / exercise.name / str(at) / f"{student}.mixal"
-                source.parent.mkdir()
-                source.write_text(text.partition("%DEVICES")[0])
-                jobs.append(pool.submit(judged, here / exercise.name, exercise, weights, source, must, words))
-        for job in jobs:
-            line, good, more = job.result()
-            passed, failed = passed + good, failed + (not good)
-            print(line)
-            print("" if good else "".join(f"  {one}\n" for one in more if one), end="")
-    for name in missing if not asked.lessons else ():
-        print(f"{name}: an answer without cases")
-        failed += 1
-    print(f"{passed} passed, {failed} failed")
-    return 1 if failed or not chosen else 0
-
-
-sys.exit(main())
+def test_each_answer_has_cases():
+    answers = {path.parent.name for path in COURSE.glob("[0-9]*/answer.mixal")}
+    assert answers <= {exercise.name for exercise in variants.ALL}

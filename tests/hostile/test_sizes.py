@@ -1,10 +1,10 @@
 """Calls that may answer out of memory, or be cut, each at its documented limit with memory enough: they do neither. What is due is worked out here, by the rules."""
 
-import os
+import pytest
 
 from tests.adapter.frames import BODY, frame, messages, request
-from tests.hostile.limits import DECK, SCRIPT, SOURCE, filled, shown_block
-from tests.hostile.runner import TOP, Count, Runner, bundle, folder, lines
+from tests.hostile.inputs import bundle, lines
+from tests.hostile.test_limits import DECK, SCRIPT, SOURCE, filled, shown_block
 
 LOOP = b" JMP *\n END 0\n"
 MANY = 1000001
@@ -63,11 +63,11 @@ def talk(runner, requests):
     return [answer.get("body") for answer in answers], (in_turn, refused, errors, status), [message for message in every if message["type"] != "response"]
 
 
-def dialogues(runner, count):
+def test_dialogues(runner, elsewhere):
     """Launches with texts at their limits, named and in the longest frame; the views after 11,000,000 changes; 70,000 requests."""
     texts = {"source": filled(b"", SOURCE - 23) + b"\n INCA 1\n JMP 0\n END 0\n", "devices": filled(b"", DECK - len(FULL) - 1, b" ") + b"\n" + FULL,
              "cards": b"".join((b"D" * 80).ljust(33553 + (k < 432)) + b"\n" for k in range(1000))}
-    count.same("texts at their limits", [*map(len, texts.values())], [SOURCE, DECK, DECK])
+    assert [*map(len, texts.values())] == [SOURCE, DECK, DECK]
     write(texts)
     files = ("launch", {"program": "source", "devices": "devices", "cards": "cards", "stopOnEntry": True})
     given = ("launch", {"stopOnEntry": True, **{name + "Text": text.decode() for name, text in texts.items()}})
@@ -79,21 +79,21 @@ def dialogues(runner, count):
     long = [*[("continue", {})] * 11, *views, *[("reverseContinue", {})] * 11, ("evaluate", {"expression": "show changes", "context": "repl"}), *[("threads", {})] * 70000]
     for name, begin, more in (("a frame", [given], []), ("files", [("initialize", {}), files], long)):
         found, ended, events = talk(runner, [*begin, *looks, *more, ("disconnect", {})])
-        count.same(f"a dialogue that launches by {name}", ended, (True, [], b"", 0))
+        assert ended == (True, [], b"", 0), name
         program, units, shown, *rest = found[len(begin) + 1:]
         units = [unit.get("unread", unit["blocks"]) for unit in units["units"]]
-        count.same(f"a launch by {name}", [program, units, shown], due)
+        assert [program, units, shown] == due, name
     counts, path, writes, change = rest[11:15]
     each = [{"cell": k, "count": "5500000", "time": "5500000"} for k in (0, 1)]
-    count.same("counts of 11,000,000 changes", counts, {"cells": each, "count": "11000000", "time": "11000000"})
-    count.same("their path", path, {"columns": [{"cells": [{"cell": k, "count": 11000} for k in (0, 1)]}] * 500, "from": 0, "until": 11000000})
-    count.same("what wrote A", [(one["number"], one["before"]["number"], one["after"]["number"]) for one in writes["writes"]],
-               [(2 * k + 1, str(k), str(k + 1)) for k in range(5499999, 5498999, -1)])
+    assert counts == {"cells": each, "count": "11000000", "time": "11000000"}
+    assert path == ({"columns": [{"cells": [{"cell": k, "count": 11000} for k in (0, 1)]}] * 500, "from": 0, "until": 11000000})
+    told = [(one["number"], one["before"]["number"], one["after"]["number"]) for one in writes["writes"]]
+    assert told == [(2 * k + 1, str(k), str(k + 1)) for k in range(5499999, 5498999, -1)]
     done = {"operation": "INCA", "address": "1", "field": 0, "index": 0}
-    count.same("a change", change, {"number": 10999999, "location": 0, "locationAfter": 1, "kind": "step", "text": "INCA 1", "instruction": done, "time": "1",
+    assert change == ({"number": 10999999, "location": 0, "locationAfter": 1, "kind": "step", "text": "INCA 1", "instruction": done, "time": "1",
                                     "items": [{"part": "A", "before": "+ 00 20 62 49 31", "after": "+ 00 20 62 49 32"}]})
-    count.same("all taken back", rest[26]["result"], "changes 0\n")
-    count.same("22 pauses", [event["body"]["text"] for event in events[2:]], ["paused after 1000000 changes"] * 22)
+    assert rest[26]["result"] == "changes 0\n"
+    assert [event["body"]["text"] for event in events[2:]] == ["paused after 1000000 changes"] * 22
 
 
 def write(texts):
@@ -102,16 +102,14 @@ def write(texts):
             file.write(text)
 
 
-def rows(program, workers, quick=False):
-    count = Count()
-    with folder() as place, folder() as other:
-        os.chdir(other)
-        runner = Runner(program, place)
-        for files, words, wanted in runs():
-            write(files)
-            count.same(words or "until conflict", runner.run(files.get("in", b""), words.split()), wanted)
-        with open("kept", "rb") as kept:
-            count.row("units that are full are kept", kept.read() == FULL)
-        dialogues(runner, count)
-        os.chdir(TOP)
-    return count
+@pytest.fixture
+def elsewhere(tmp_path, monkeypatch):
+    monkeypatch.chdir(tmp_path)
+
+
+def test_runs(runner, elsewhere):
+    for files, words, wanted in runs():
+        write(files)
+        assert runner.run(files.get("in", b""), words.split()) == wanted, words
+    with open("kept", "rb") as kept:
+        assert kept.read() == FULL

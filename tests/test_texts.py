@@ -1,16 +1,14 @@
-#!/usr/bin/env -S sh -c 'exec "${0%/*}/python" "$0" "$@"'
-"""Each text that the program can write stands in a test that runs it, or in a definition: tests/texts [--print]
+"""Each text that the program can write stands in a test that runs it, or in a definition.
 
 A text is a literal of the code of a crate (crates/*/src), cut at its line ends and at what a format puts in. It counts as looked at where it stands
 - in a literal of a definition (crates/*/specs), which the prover holds the code to,
-- or in what a test gives or wants: files of tests/, the documents that tests/documents runs, and docs/operations.tsv.
-What has fewer than three letters says nothing. --print prints where each text stands. The last line counts."""
+- or in what a test gives or wants: files of tests/, the documents that tests/test_documents.py runs, and docs/operations.tsv.
+What has fewer than three letters says nothing."""
 import pathlib
 import re
 import subprocess
-import sys
 
-from tests.tally import Count
+import pytest
 
 TOP = pathlib.Path(__file__).resolve().parent.parent
 ESCAPES = {"n": "\n", "r": "\r", "t": "\t", "0": "\0"}
@@ -46,23 +44,24 @@ def read(name):
     return (TOP / name).read_bytes().decode(errors="replace")
 
 
-def main():
-    count = Count()
-    defined = "\n".join("\n".join(literals(read(name).replace("--", "//"))) for name in names("crates/*/specs/*.antt"))
-    places = {"a definition": defined, **{name: read(name) for name in [*names("tests"), *(f"docs/{name}.md" for name in ("RUNS", "FILES", "COMMANDS", "FAULTS", "DECISIONS"))]}}
-    places["docs/operations.tsv"] = re.sub(r"{([VMF])}", r"\1", read("docs/operations.tsv").replace("{cell}", "cell M").replace("{line}", "M"))
-    texts = {}
+def texts():
+    """Each text, with the name of a file that has it."""
+    found = {}
     for name in names("crates/*/src/*.rt"):
         if not name.startswith("crates/call_tests/"):
-            for text in literals(read(name)):
-                for piece in pieces(text):
-                    texts.setdefault(piece, name)
-    for text, name in texts.items():
-        where = next((place for place, said in places.items() if text in said), None)
-        if "--print" in sys.argv:
-            print(f"{text!r}, of {name}: {where}")
-        count.row(f"{name}: {text!r}", where, "stands in no test and no definition")
-    return count.ended()
+            found.update({piece: name for text in literals(read(name)) for piece in pieces(text)})
+    return [pytest.param(text, id=f"{name}: {text!r}") for text, name in found.items()]
 
 
-sys.exit(main())
+@pytest.fixture(scope="module")
+def places():
+    """What looks at texts: the definitions, the tests, and the documents that are run."""
+    documents = [f"docs/{name}.md" for name in "RUNS FILES COMMANDS FAULTS DECISIONS".split()]
+    defined = [text for name in names("crates/*/specs/*.antt") for text in literals(read(name).replace("--", "//"))]
+    operations = read("docs/operations.tsv").replace("{cell}", "cell M").replace("{line}", "M")
+    return ["\n".join(defined), re.sub(r"{([VMF])}", r"\1", operations), *map(read, [*names("tests"), *documents])]
+
+
+@pytest.mark.parametrize("text", texts())
+def test_text(places, text):
+    assert any(text in place for place in places)

@@ -2,8 +2,9 @@
 
 What is due at a large clock is the model's; the rest is worked out here, by the rules alone."""
 
-from tests.hostile.runner import BUNDLES, Count, Runner, bundle, folder, lines
+import pytest
 
+from tests.hostile.inputs import BUNDLES, bundle, lines
 from tests.model import bundle as model
 
 TYPED, _, REPLIES, _ = BUNDLES["ample"]["every reply at a clock that two transfers have set"]
@@ -45,11 +46,12 @@ def words(count):
     return b"".join(text) + b" END 0\n%SCRIPT\nshow cells 0 3999\n", (shown, b"", 0)
 
 
-def rows(program, workers, quick=False):
-    count = Count()
-    every = [*clocks(), *jumps()] + [("a source of %d words" % number, *words(number)) for number in (4000, 4001, 9000, 19994)]
-    with folder() as place:
-        runner = Runner(program, place)
-        for name, text, wanted in every:
-            count.same(name, runner.run(text), wanted)
-    return count
+def sources():
+    for number in (4000, 4001, 9000, 19994):
+        yield "a source of %d words" % number, *words(number)
+
+
+@pytest.mark.parametrize("part", [clocks, jumps, sources])
+def test_ample(runner, part):
+    for name, text, wanted in part():
+        assert runner.run(text) == wanted, name

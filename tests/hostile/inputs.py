@@ -1,0 +1,42 @@
+"""Bundles, and the parts of which they are put together."""
+
+import collections
+import os
+import re
+
+from tests.rowfiles import parts
+
+HERE = os.path.dirname(os.path.abspath(__file__))
+TOP = os.path.dirname(os.path.dirname(HERE))
+
+Bundle = collections.namedtuple("Bundle", "source deck script replies")
+
+
+def read_bundles():
+    """The bundles of bundles.txt, each with its kind and name. After the lines of a script that begin with `$` stand their replies."""
+    for head, text in parts(os.path.join(HERE, "bundles.txt")):
+        text, _, script = text.encode().partition(b"%SCRIPT\n")
+        source, marker, deck = text.partition(b"%DEVICES\n")
+        told = re.findall(rb"(?m)^\$ (.*\n)", script)
+        yield *head.split(": ", 1), Bundle(source, deck if marker else None, b"".join(told) or script, told and re.sub(rb"(?m)^\$ .*\n", b"", script))
+
+
+BUNDLES: dict = collections.defaultdict(dict)
+for _kind, _name, _bundle in read_bundles():
+    BUNDLES[_kind][_name] = _bundle
+
+
+def bundle(source, script, deck=None):
+    """A bundle of texts; a part that does not end its last line gets a line feed."""
+    parts = [whole(source)]
+    if deck is not None:
+        parts += [b"%DEVICES\n", whole(deck)]
+    return b"".join(parts + [b"%SCRIPT\n", script])
+
+
+def whole(text):
+    return text if not text or text.endswith(b"\n") else text + b"\n"
+
+
+def lines(*texts):
+    return b"".join(text.encode() + b"\n" for text in texts)
