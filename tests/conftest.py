@@ -1,4 +1,4 @@
-"""What the tests for pytest have in common: the program that is tested."""
+"""What the tests for pytest have in common: the program that is tested, and a talk with its adapter."""
 import pytest
 
 
@@ -12,6 +12,23 @@ def pytest_addoption(parser):
 @pytest.fixture
 def program(request):
     return request.config.getoption("--program")
+
+
+@pytest.fixture
+def command(program):
+    return [program, "dap"]
+
+
+@pytest.fixture
+def talk(command, request):
+    """A talk through debugpy's channel, after `initialize`, with the arguments of the test's mark where it has one."""
+    from tests.adapter.client import Client  # without python3-debugpy only these tests are left out
+
+    client = Client(command)
+    mark = request.node.get_closest_marker("initialize")
+    client.begin(**(mark.kwargs if mark else {}))
+    yield client
+    client.kill()
 
 
 def pytest_terminal_summary(terminalreporter):
