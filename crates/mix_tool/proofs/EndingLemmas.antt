@@ -1,5 +1,5 @@
 -- A line that is told, or where memory is refused for it another.
-use Rattle.std.proofs.Common.{◌≡◌, ◌≤◌, ◌⊎◌, ℕ, List, [], ◌∷◌, ◌++◌, Option, Result, Ok, Err, IfOk, arith, inl, inr, subst}
+use Rattle.std.proofs.Common.{◌≡◌, ◌≤◌, ◌⊎◌, ℕ, List, [], ◌∷◌, ◌++◌, Option, Result, Ok, Err, IfOk, arith, inl, inr, subst, refl}
 use Rattle.std.specs.Prelude.{OnOk}
 use Rattle.std.specs.Result.{MatchResult}
 use Rattle.mix_run.specs.Prelude.{IsStatus, named}
@@ -8,7 +8,8 @@ use Rattle.mix_run.specs.declared.print.PrintAnswer.{PrintAnswer}
 use Rattle.mix_run.specs.declared.print.steps.RunEnd.{RunEnd}
 use Rattle.mix_run.specs.declared.print.PrintAnswer.TheVariants as answers
 use Rattle.mix_run.specs.declared.print.steps.RunEnd.TheVariants as ends
-use Rattle.mix_tool.specs.Ending.{IsAmong, status_of_end, status_of_print, status_of_run}
+use Rattle.mix_tool.specs.Ending.{IsAmong, status_of_end, status_of_print, status_of_run, memory_line}
+use Rattle.mix_tool.specs.Told.{Errors, TellsAll, TellsBeside, WroteBeside}
 
 pub either_told : {S E : Type 0} (r : Result S E) (P : List ℕ → Type 0) (bytes : S → List ℕ) (line other : List ℕ)
     → IfOk r (λ s. bytes s ≡ line) → MatchResult r (λ s. P (bytes s)) (λ _. P other) → P line ⊎ P other
@@ -54,3 +55,21 @@ print_range (Ok (answers.Ran ran)) status e = go ran.end e
     go (ends.Faulted fault) is = omega (arith, is)
     go (ends.Conflicting conflict) is = omega (arith, is)
     go ends.UsedUp is = omega (arith, is)
+
+-- ---- lines that are told beside, one after the other, and texts that are saved or not
+
+-- a line, or where memory is refused for it another
+pub told-line : {S E : Type 0} (r : Result S E) (bytes : S → List ℕ) (line : List ℕ) (a b : Errors) → IfOk r (λ s. bytes s ≡ line)
+    → MatchResult r (λ s. WroteBeside (bytes s) a b) (λ _. WroteBeside memory_line a b) → TellsBeside line a b
+told-line r bytes line a b is told = either_told r (λ (l : List ℕ). WroteBeside l a b) bytes line memory_line is told
+
+pub tells-one : (line : List ℕ) (a b : Errors) → TellsBeside line a b → TellsAll (line ∷ []) a b
+tells-one line a b told = (b, told, refl)
+
+pub tells-two : (x y : List ℕ) (a b c : Errors) → TellsBeside x a b → TellsBeside y b c → TellsAll (x ∷ y ∷ []) a c
+tells-two x y a b c first next = (b, first, (c, next, refl))
+
+-- some lines, and then others
+pub tells-then : (xs ys : List (List ℕ)) (a b c : Errors) → TellsAll xs a b → TellsAll ys b c → TellsAll (xs ++ ys) a c
+tells-then [] ys a b c same next = subst (λ (m : Errors). TellsAll ys m c) same next
+tells-then (x ∷ xs) ys a b c told next = (told.0, told.1, tells-then xs ys told.0 b c told.2 next)

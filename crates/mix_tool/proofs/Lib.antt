@@ -3,4 +3,3 @@ mod EndingLemmas
 mod OpeningLemmas
 mod RunLemmas
 mod SavingLemmas
-mod ToldLemmas

@@ -1,3 +1,2 @@
 mod EngineLemmas
-mod TalkLemmas
 mod Words

@@ -1,7 +1,7 @@
 -- Two lines, one after the other.
 use Rattle.std.specs.Prelude.{string_bytes}
 use Rattle.mix_tool.specs.Told.{beside}
-use Rattle.mix_tool.proofs.ToldLemmas.{tells-two, told-line}
+use Rattle.mix_tool.proofs.EndingLemmas.{tells-two, told-line}
 use Rattle.mix_tool.proofs.conflicts.tell_conflicts.Goals as goal
 
 pub returns-in-Some : goal.returns-in-Some

@@ -1,6 +1,6 @@
 -- There is no table of what is asked for.
 use Rattle.std.specs.Prelude.{string_bytes}
-use Rattle.mix_tool.proofs.ToldLemmas.{tells-one, told-line}
+use Rattle.mix_tool.proofs.EndingLemmas.{tells-one, told-line}
 use Rattle.mix_tool.proofs.ran.print_status.Goals as goal
 
 pub returns-in-NoTable-clause-told : goal.returns-in-NoTable-clause-told

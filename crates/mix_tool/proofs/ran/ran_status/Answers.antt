@@ -1,6 +1,6 @@
 -- First what conflicts, and then where it ended.
 use Rattle.mix_tool.specs.Told.{at_text, beside, conflicts_told, end_told, place_text}
-use Rattle.mix_tool.proofs.ToldLemmas.{tells-then}
+use Rattle.mix_tool.proofs.EndingLemmas.{tells-then}
 use Rattle.mix_tool.proofs.ran.ran_status.Goals as goal
 
 pub returns-clause-told : goal.returns-clause-told

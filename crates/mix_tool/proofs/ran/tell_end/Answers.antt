@@ -1,6 +1,6 @@
 -- One line, or none after a halt.
 use Rattle.std.specs.Prelude.{string_bytes}
-use Rattle.mix_tool.proofs.ToldLemmas.{tells-one, told-line}
+use Rattle.mix_tool.proofs.EndingLemmas.{tells-one, told-line}
 use Rattle.mix_tool.proofs.ran.tell_end.Goals as goal
 
 pub returns-in-Faulted : goal.returns-in-Faulted
