@@ -32,6 +32,13 @@ def talk(command, request):
 
 
 def pytest_terminal_summary(terminalreporter):
-    """What was not run is said, with the reason."""
-    for report in terminalreporter.getreports("skipped"):
-        terminalreporter.write_line(f"not run: {report.longrepr[2].removeprefix('Skipped: ')}")
+    """What was not run is said, each reason once."""
+    skipped = {report.longrepr[2] for report in terminalreporter.getreports("skipped")}
+    for reason in sorted(skipped):
+        terminalreporter.write_line(f"not run: {reason.removeprefix('Skipped: ')}")
+
+
+def pytest_collection_modifyitems(config, items):
+    """What takes long is left out, if it is not asked for."""
+    if not config.getoption("--full"):
+        items[:] = [item for item in items if not item.get_closest_marker("full")]

@@ -68,11 +68,9 @@ def test_text(program, place, name, text, length):
     assert four - two <= MOST * (two - one)
 
 
-@pytest.mark.parametrize("size", SIZES)
-def test_table(program, place, refuse, full, size):
+@pytest.mark.parametrize("size", [*SIZES[:2], pytest.param(SIZES[2], marks=pytest.mark.full)])
+def test_table(program, place, refuse, size):
     """What each command takes, by callgrind and by a library that notes what is asked for, each up to the write of its reply."""
-    if size == SIZES[-1] and not full:
-        pytest.skip("the costs after a million changes, which --full has")
     with open(os.path.join(place, "source"), "wb") as file:
         file.write(SOURCE)
     with open(os.path.join(HERE, "costs.txt")) as file:

@@ -23,6 +23,7 @@ MOST = 100000
 
 EACH = BUNDLES["memory"]
 FIRST = EACH["the first example"].source
+QUICK = ("the first example", "a source with characters")
 
 
 class Refusing:
@@ -55,11 +56,9 @@ def refusing(runner, place, refuse):
 
 
 @pytest.mark.parametrize("how", ["bundle", "list", "debug"])
-@pytest.mark.parametrize("name", EACH)
-def test_refused(refusing, place, full, name, how):
+@pytest.mark.parametrize("name", [*QUICK, *(pytest.param(name, marks=pytest.mark.full) for name in EACH if name not in QUICK)])
+def test_refused(refusing, place, name, how):
     """The answer is T1 and a beginning of what is due, as long as an allocation is refused."""
-    if not full and name not in ("the first example", "a source with characters"):
-        pytest.skip("a run whose allocations are refused, which --full has")
     source, deck, script, _ = EACH[name]
     text, words = bundle(source, script, deck), ()
     if how != "bundle":
@@ -93,12 +92,12 @@ def again_cases():
 
 
 @pytest.fixture
-def again(request, place, refuse):
+def again(request, place):
     """The program of tests/hostile/again, whose allocations are refused."""
     program = request.config.getoption("--again")
     if not program:
         pytest.skip("the program that asks again, which --again names")
-    return Refusing(Runner(os.path.abspath(program), place), place, refuse)
+    return Refusing(Runner(os.path.abspath(program), place), place, request.getfixturevalue("refuse"))
 
 
 @pytest.mark.parametrize("how, source, deck, script", again_cases())
