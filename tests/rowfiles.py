@@ -23,9 +23,6 @@ def params(folder):
 
 def parts(file):
     """The name and the text of each part; a line that ends with {*N} is there N times."""
-    text = re.sub(r"(?m)^(.*) \{\*(\d+)\}\n", repeated, pathlib.Path(file).read_text())
+    text = pathlib.Path(file).read_text()
+    text = re.sub(r"(?m)^(.*) \{\*(\d+)\}\n", lambda it: f"{it[1]}\n" * int(it[2]), text)
     return [part.partition("\n")[::2] for part in re.split("(?m)^== ", text)[1:]]
-
-
-def repeated(found):
-    return f"{found[1]}\n" * int(found[2])

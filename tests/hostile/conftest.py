@@ -13,11 +13,6 @@ REFUSE = pathlib.Path(__file__).with_name("refuse.c")
 
 
 @pytest.fixture
-def full(request):
-    return request.config.getoption("--full")
-
-
-@pytest.fixture
 def place():
     """A folder for the files of runs, in memory where there is one."""
     with tempfile.TemporaryDirectory(dir="/dev/shm" if os.path.isdir("/dev/shm") else None) as name:

@@ -120,9 +120,9 @@ def model_of(text):
 
 
 @pytest.mark.parametrize("part", range(20))
-def test_mutants(runner, request, full, part):
-    number = request.config.getoption("--examples") or (10000 if full else 500)
-    seed, texts, compared = request.config.getoption("hypothesis_seed") or 0, originals(), 0
+def test_mutants(runner, request, part):
+    option, texts, compared = request.config.getoption, originals(), 0
+    number, seed = option("--examples") or (10000 if option("--full") else 500), option("hypothesis_seed") or 0
     for k in range(part, number, 20):
         text = mutant(texts, seed, k)
         found, wanted = runner.run(text), model_of(text)
