@@ -2,5 +2,4 @@ pub mod Nodes
 pub mod Read
 pub mod Rows
 pub mod Shape
-pub mod Text
 pub mod View

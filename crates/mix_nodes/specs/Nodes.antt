@@ -79,9 +79,6 @@ head_target w s head = target_of s (head_value w head.link)
 abbrev pub pointers : List Reg
 pointers = I1 ∷ I2 ∷ I3 ∷ I4 ∷ I5 ∷ I6 ∷ []
 
-abbrev pub pointer_target : WorldState → ShapeValue → Reg → Target
-pointer_target w s r = target_of s (register_of w r)
-
 -- a root is a node to which a head leads, and every node where there are no heads
 unfoldable pub is_root : WorldState → ShapeValue → ℕ → Bool
 is_root w s b =

@@ -3,10 +3,7 @@
 #![tactic(auto)]
 
 mod field;
-mod heads;
 mod item;
-mod line;
-mod nodes;
 mod place;
 mod read;
 mod rows;
@@ -15,5 +12,6 @@ mod text;
 mod words;
 
 pub use read::read_shape;
+pub use rows::rows_of;
 pub use shape::{FieldAt, Head, HeadLink, Shape};
 pub use text::nodes_text;

@@ -2,28 +2,22 @@
 ghost use Rattle.std.specs.Prelude.{◌≡◌, ◌<◌, ◌≤◌, ◌*◌, ◌+◌, ◌&&◌, pos, ◌+ℤ◌, IfSome};
 ghost use Rattle.mix_word.specs.Word.{number_of};
 ghost use Rattle.mix_nodes.specs.Shape.{base_of};
-ghost use Rattle.mix_nodes.specs.Nodes.{head_target, head_value, leads_to, link_target, location_of, node_count, pointer_target, target_after, target_at, target_of, value_of, word_at};
+ghost use Rattle.mix_nodes.specs.Nodes.{head_target, leads_to, link_target, location_of, node_count, target_of, value_of, word_at};
 
 use crate::shape::{FieldAt, Head, HeadLink, Shape, Target};
 use mix_machine::World;
-use mix_word::{Place, Reg, Word};
+use mix_word::{Place, Word};
 
 // The word of a number; +0 where there is no cell of it.
 fn word_at(world: &World, number: i32) -> Word
     ensures { result ≡ word_at world.now number }
 {
     match u16::try_from(number) {
-        Ok(number) => word_in(world, number),
+        Ok(number) => match Place::of(number) {
+            Some(place) => world.cell(place),
+            None => Word::ZERO,
+        },
         Err(_) => Word::ZERO,
-    }
-}
-
-fn word_in(world: &World, number: u16) -> Word
-    ensures { result ≡ word_at world.now (pos number) }
-{
-    match Place::of(number) {
-        Some(place) => world.cell(place),
-        None => Word::ZERO,
     }
 }
 
@@ -51,47 +45,27 @@ impl Shape<'_> {
         self.first + node * self.size
     }
 
-    // Where a link leads that is so far after the first cell.
-    fn target_after(&self, link: Word, far: u16) -> Target
-        ensures { result ≡ target_after self.now link far }
-    {
-        if far < self.node_count() * self.size {
-            if far % self.size == 0 {
-                Target::Node(far / self.size, self.first + far)
-            } else {
-                Target::Inside(self.first + far)
-            }
-        } else {
-            Target::Out(link)
-        }
-    }
-
-    // Where a link leads, by a number.
-    fn target_at(&self, link: Word, number: i32) -> Target
-        ensures { result ≡ target_at self.now link number }
-    {
-        match u16::try_from(number) {
-            Ok(number) if self.first <= number => self.target_after(link, number - self.first),
-            _ => Target::Out(link),
-        }
-    }
-
-    // What links are counted from.
-    fn base(&self) -> Word
-        ensures { result ≡ base_of self.now }
-    {
-        self.base.unwrap_or(Word::ZERO)
-    }
-
     /// Where a link leads.
     #[tactic(auto, unfolding(crate::specs::Nodes::target_of))]
     pub(crate) fn target_of(&self, link: Word) -> Target
         ensures { result ≡ target_of self.now link }
     {
         if link.magnitude() == 0 {
-            Target::Nil
-        } else {
-            self.target_at(link, self.base().number() + link.number())
+            return Target::Nil;
+        }
+        let base = self.base.unwrap_or(Word::ZERO);
+        match u16::try_from(base.number() + link.number()) {
+            Ok(number) if self.first <= number => {
+                let far = number - self.first;
+                if far >= self.node_count() * self.size {
+                    Target::Out(link)
+                } else if far % self.size == 0 {
+                    Target::Node(far / self.size, self.first + far)
+                } else {
+                    Target::Inside(self.first + far)
+                }
+            }
+            _ => Target::Out(link),
         }
     }
 
@@ -107,24 +81,11 @@ impl Shape<'_> {
     pub(crate) fn head_target(&self, world: &World, head: &Head) -> Target
         ensures { result ≡ head_target world.now self.now head.now }
     {
-        self.target_of(head_value(world, head.link))
-    }
-
-    /// Where a register points.
-    pub(crate) fn pointer_target(&self, world: &World, register: Reg) -> Target
-        ensures { result ≡ pointer_target world.now self.now register }
-    {
-        self.target_of(world.register(register))
-    }
-}
-
-fn head_value(world: &World, link: HeadLink) -> Word
-    ensures { result ≡ head_value world.now link }
-{
-    match link {
-        HeadLink::Literal(link) => link,
-        HeadLink::Cell(field) => value_of(world, 0, field),
-        HeadLink::Register(register) => world.register(register),
+        match head.link {
+            HeadLink::Literal(link) => self.target_of(link),
+            HeadLink::Cell(field) => self.target_of(value_of(world, 0, field)),
+            HeadLink::Register(register) => self.target_of(world.register(register)),
+        }
     }
 }
 

@@ -1,7 +1,7 @@
 //! A shape as it is typed: from E to E, N words each, base E, label F, .. links F, .. heads H, ..
 ghost use Rattle.std.specs.Prelude.{◌≡◌, ◌≤◌, ◌<◌, Some, None, false, IfOk, IfSome, MatchOption, codes};
 ghost use Rattle.mixal_text.specs.Names.{NamesValue};
-ghost use Rattle.mix_nodes.specs.Read.{first_region, reading, read_shape, read_words, region_between, shape_in, shape_of, without_commas};
+ghost use Rattle.mix_nodes.specs.Read.{first_region, reading, read_shape, read_words, shape_in, shape_of, without_commas};
 
 use crate::shape::Shape;
 use crate::words::{first_cell, first_size, keyword, next_word};
@@ -36,18 +36,6 @@ pub(crate) struct Reading<'a> {
     pub is_empty: bool,
 }
 
-fn region_between(first: u16, last: u16, size: u16) -> Option<Region>
-    ensures is { result ≡ region_between first last size }
-    ensures first { IfSome result (λ r. r.first ≤ r.last) }
-    ensures same { IfSome result (λ r. (r.last ≡ last) × (r.size ≡ size)) }
-{
-    if first <= last {
-        Some(Region { first, last, size })
-    } else {
-        None
-    }
-}
-
 // Reads the fixed beginning: from E to E, N words each.
 #[tactic(auto, unfolding(crate::specs::Read::first_region))]
 fn first_region<N: Names>(words: &mut Words, names: &N, here: Word) -> Option<Region>
@@ -62,7 +50,11 @@ fn first_region<N: Names>(words: &mut Words, names: &N, here: Word) -> Option<Re
     let size = first_size(words)?;
     keyword(b"words", words)?;
     keyword(b"each", words)?;
-    region_between(first, last, size)
+    if first <= last {
+        Some(Region { first, last, size })
+    } else {
+        None
+    }
 }
 
 // A shape of which no list was read.

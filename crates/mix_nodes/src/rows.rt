@@ -59,21 +59,6 @@ fn root_rows(alloc: Global, world: &World, shape: &Shape) -> Result<Vec<Option<u
     Ok(rows)
 }
 
-// Puts a node into a row, if it has none; whether it had none.
-fn put_row(rows: &mut [Option<u16>], node: u16, row: u16) -> bool
-    ensures len { length rows.new ≡ length rows.old }
-    ensures none { result ≡ false → rows.new ≡ rows.old }
-    ensures rows { (b : ℕ) → b < length rows.old → row_in rows.new b ≡ option_or (row_in rows.old b) (row_if (node == b) row) }
-{
-    let at = usize::from(node);
-    if at < rows.len() && rows[at].is_none() {
-        rows[at] = Some(row);
-        true
-    } else {
-        false
-    }
-}
-
 // Puts the node to which a link leads into a row, if it has none; whether there was one.
 fn put_target(rows: &mut [Option<u16>], target: Target, row: u16) -> bool
     ensures len { length rows.new ≡ length rows.old }
@@ -81,7 +66,15 @@ fn put_target(rows: &mut [Option<u16>], target: Target, row: u16) -> bool
     ensures rows { (b : ℕ) → b < length rows.old → row_in rows.new b ≡ option_or (row_in rows.old b) (row_if (leads_to b target) row) }
 {
     match target {
-        Target::Node(node, _) => put_row(rows, node, row),
+        Target::Node(node, _) => {
+            let at = usize::from(node);
+            if at < rows.len() && rows[at].is_none() {
+                rows[at] = Some(row);
+                true
+            } else {
+                false
+            }
+        }
         Target::Nil | Target::Inside(_) | Target::Out(_) => false,
     }
 }
@@ -136,12 +129,8 @@ fn add_row(world: &World, shape: &Shape, row: u16, rows: &mut [Option<u16>]) -> 
     found
 }
 
-/// The row of each node.
-pub(crate) fn rows_of(
-    alloc: Global,
-    world: &World,
-    shape: &Shape,
-) -> Result<Vec<Option<u16>>, AllocError>
+/// The row of each node: the least number of links from a head to it; none where it cannot be reached. Only out of memory refuses it.
+pub fn rows_of(alloc: Global, world: &World, shape: &Shape) -> Result<Vec<Option<u16>>, AllocError>
     ensures { IfOk result (λ rows. (b : ℕ) → row_in rows.items b ≡ row_of world.now shape.now b) }
 {
     let count = shape.node_count();

@@ -7,22 +7,15 @@ use mix_lines::{Words, number};
 use mix_word::{CELLS, Word};
 use mixal_text::{Names, whole_expression};
 
-// A word without the comma at its end.
-fn without_comma(word: &[u8]) -> &[u8]
-    ensures { result.now ≡ without_comma word.now }
-{
-    match word {
-        [text @ .., b','] => text,
-        _ => word,
-    }
-}
-
-/// The next word, without its comma.
+/// The next word, without the comma at its end.
 pub(crate) fn next_word<'a>(words: &mut Words<'a>) -> Option<&'a [u8]>
     ensures { MatchOption result (without_commas words.old ≡ []) (λ word. without_commas words.old ≡ word.now ∷ without_commas words.new) }
 {
     let word = words.next()?;
-    Some(without_comma(word))
+    match word {
+        [text @ .., b','] => Some(text),
+        _ => Some(word),
+    }
 }
 
 /// Whether a word is a keyword, in capitals or small letters.
@@ -54,17 +47,6 @@ pub(crate) fn expression_in<N: Names>(text: &[u8], names: &N, here: Word) -> Opt
     }
 }
 
-// The cell of a number.
-fn cell_of_number(number: i32) -> Option<u16>
-    ensures is { result ≡ cell_of_number number }
-    ensures there { IfSome result (λ p. p < 4000) }
-{
-    match u16::try_from(number) {
-        Ok(cell) if cell < CELLS => Some(cell),
-        _ => None,
-    }
-}
-
 /// Reads a cell.
 pub(crate) fn first_cell<N: Names>(words: &mut Words, names: &N, here: Word) -> Option<u16>
     ensures is { MatchOption result (first_cell (N.names names.now) here (without_commas words.old) ≡ None) (λ cell. first_cell (N.names names.now) here (without_commas words.old) ≡ Some (cell, without_commas words.new)) }
@@ -72,17 +54,8 @@ pub(crate) fn first_cell<N: Names>(words: &mut Words, names: &N, here: Word) -> 
 {
     let word = next_word(words)?;
     let value = expression_in(word, names, here)?;
-    cell_of_number(value.number())
-}
-
-// How many words a node has, by a number.
-fn size_of_number(number: Option<u64>) -> Option<u16>
-    ensures is { result ≡ size_of_number number }
-    ensures some { IfSome result (λ size. 0 < size) }
-    ensures within { IfSome result (λ size. size ≤ 4000) }
-{
-    match number {
-        Some(size) if 0 < size && size <= 4000 => Some(size as u16),
+    match u16::try_from(value.number()) {
+        Ok(cell) if cell < CELLS => Some(cell),
         _ => None,
     }
 }
@@ -94,5 +67,8 @@ pub(crate) fn first_size(words: &mut Words) -> Option<u16>
     ensures within { IfSome result (λ size. size ≤ 4000) }
 {
     let word = next_word(words)?;
-    size_of_number(number(word))
+    match number(word) {
+        Some(size) if 0 < size && size <= 4000 => Some(size as u16),
+        _ => None,
+    }
 }
