@@ -10,8 +10,6 @@ from exercise import Draw
 from running import COURSE, Bundle
 
 ALL = sorted([*exercises_1.EXERCISES, *exercises_2.EXERCISES, *exercises_5.EXERCISES, *exercises_more.EXERCISES])
-
-
 SMALL, LARGE, MORE = 3, 8, 3  # up to SMALL entries a case counts one point, if others have LARGE or more; any other case counts MORE
 
 

@@ -5,10 +5,9 @@
 - No source that the assembler accepts has a place that is coloured as an error.
 - package.json is complete, and the files that it names are there.
 What cannot be run, since its tool is not installed, is said."""
-import glob
 import itertools
 import json
-import os
+import pathlib
 import re
 import shutil
 import subprocess
@@ -20,11 +19,8 @@ from machine import TIMES
 from tests.adapter.textmate import Grammar
 from tests.runs.bundles import bundles
 
-HERE = os.path.dirname(os.path.abspath(__file__))
-TOP = os.path.dirname(HERE)
-EDITORS = os.path.join(TOP, "editors")
-
-
+TOP = pathlib.Path(__file__).resolve().parent.parent
+EDITORS = TOP / "editors"
 PSEUDO = {"EQU", "ORIG", "CON", "ALF", "END"}
 
 # What a colour of the samples is called in the grammar, by the first parts of its name, and in Vim.
@@ -88,14 +84,14 @@ def of_grammar(grammar):
 def of_vim():
     """The same of Vim's syntax, in Python's signs."""
     found = {"O": [], "P": []}
-    with open(os.path.join(EDITORS, "vim", "syntax", "mixal.vim")) as file:
-        for name, pattern in re.findall(r'^syntax match (\w+) "(.*?)\\%\(\[ \\t\]\\\|\$\\\)\\@=" contained nextgroup', file.read(), re.M):
-            if OF_GROUP.get(name) in found:
-                found[OF_GROUP[name]].append(re.sub(r"\\%\(", "(?:", pattern).replace(r"\)", ")").replace(r"\|", "|").replace(r"\?", "?"))
+    syntax = (EDITORS / "vim/syntax/mixal.vim").read_text()
+    for name, pattern in re.findall(r'^syntax match (\w+) "(.*?)\\%\(\[ \\t\]\\\|\$\\\)\\@=" contained nextgroup', syntax, re.M):
+        if OF_GROUP.get(name) in found:
+            found[OF_GROUP[name]].append(re.sub(r"\\%\(", "(?:", pattern).replace(r"\)", ")").replace(r"\|", "|").replace(r"\?", "?"))
     return {colour: "|".join(groups) for colour, groups in found.items()}
 
 
-GRAMMAR = Grammar.read(os.path.join(EDITORS, "vscode"))
+GRAMMAR = Grammar.read(EDITORS / "vscode")
 
 
 @pytest.mark.parametrize("patterns", [of_grammar(GRAMMAR), of_vim()], ids=["grammar", "Vim"])
@@ -146,23 +142,19 @@ qall!
 def colours_of_vim(lines):
     """The same as Vim has it, which is asked for the group of each byte."""
     with tempfile.TemporaryDirectory() as folder:
-        source, wrote, script = (os.path.join(folder, name) for name in ("source.mixal", "wrote", "script.vim"))
-        with open(source, "w", encoding="latin-1") as file:
-            file.writelines(line + "\n" for line in lines)
-        with open(script, "w") as file:
-            file.write(VIM % (f"'{EDITORS}/vim'", source, f"'{wrote}'"))
+        source, wrote, script = (pathlib.Path(folder, name) for name in ("source.mixal", "wrote", "script.vim"))
+        source.write_text("".join(f"{line}\n" for line in lines), encoding="latin-1")
+        script.write_text(VIM % (f"'{EDITORS}/vim'", source, f"'{wrote}'"))
         subprocess.run(["vim", "-u", "NONE", "-i", "NONE", "-n", "-es", "-c", "set encoding=latin1", "-S", script],
                        stdin=subprocess.DEVNULL, stdout=subprocess.DEVNULL, timeout=300, check=True)
-        with open(wrote) as file:
-            rows = file.read().split("\n")[:len(lines)]
+        rows = wrote.read_text().split("\n")[:len(lines)]
     return ["".join(OF_GROUP.get(name.strip(), " ") for name in row.split(",")) if row else "" for row in rows]
 
 
 def accepted():
     """The bundles of examples/, and those of tests/runs/ that the assembler accepts: all whose output is not the line of a fault."""
-    for path in sorted(glob.glob(os.path.join(TOP, "examples", "*.mixal"))):
-        with open(path, encoding="latin-1") as file:
-            yield os.path.relpath(path, TOP), file.read().split("\n")
+    for path in sorted(TOP.glob("examples/*.mixal")):
+        yield str(path.relative_to(TOP)), path.read_text(encoding="latin-1").split("\n")
     for place, bundle, written in bundles():
         if not re.match(r"  line \d+: A\d+ ", written):
             yield place, bundle.split("\n")
@@ -170,10 +162,9 @@ def accepted():
 
 def samples():
     """The lines of editors/samples.txt, in groups parted by blank lines; each line has its colours on the next one, after a bar."""
-    with open(os.path.join(EDITORS, "samples.txt")) as file:
-        for group in file.read().split("\n\n"):
-            rows = [row[1:] for row in group.split("\n") if row.startswith("|")]
-            yield rows[0::2], rows[1::2]
+    for group in (EDITORS / "samples.txt").read_text().split("\n\n"):
+        rows = [row[1:] for row in group.split("\n") if row.startswith("|")]
+        yield rows[0::2], rows[1::2]
 
 
 def is_coloured(line, found, wanted):
@@ -187,7 +178,7 @@ def colours(request):
     """What colours lines."""
     if request.param == "grammar":
         return lambda lines: colours_of_grammar(GRAMMAR, lines)
-    subprocess.run([os.path.join(HERE, "install"), "vim"], check=True)
+    subprocess.run([TOP / "tests/install", "vim"], check=True)
     if not shutil.which("vim"):
         pytest.skip("Vim's syntax in Vim, since there is no vim")
     return colours_of_vim
@@ -214,14 +205,12 @@ def test_names_and_words_near_them(colours):
 
 def test_package():
     """package.json: its parts, the files that it names, the attributes of launch."""
-    folder = os.path.join(EDITORS, "vscode")
-    with open(os.path.join(folder, "package.json")) as file:
-        package = json.load(file)
+    folder = EDITORS / "vscode"
+    package = json.loads((folder / "package.json").read_text())
     parts = package["contributes"]
     named = [language["configuration"] for language in parts["languages"]] + [grammar["path"] for grammar in parts["grammars"]]
     for name in named:
-        with open(os.path.join(folder, name)) as file:
-            assert isinstance(json.load(file), dict), f"package.json names {name}"
+        assert isinstance(json.loads((folder / name).read_text()), dict), f"package.json names {name}"
     languages = [language["id"] for language in parts["languages"]]
     debugger = parts["debuggers"][0]
     launch = debugger["configurationAttributes"]["launch"]

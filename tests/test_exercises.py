@@ -16,8 +16,6 @@ from running import COURSE
 from tests.rowfiles import parts
 
 TOP = pathlib.Path(__file__).resolve().parent.parent
-
-
 SMALL = """N       EQU  3
 START   ENT1 N
 LOOP    INCA 2

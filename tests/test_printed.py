@@ -14,8 +14,6 @@ import pytest
 from machine import CHARACTERS
 
 TOP = pathlib.Path(__file__).resolve().parent.parent
-
-
 COUNT = re.compile(r" *(\d+) +(\d+)  (\d{4})(?:  ([ \d]{5}).*)?")
 STEP = re.compile(r" *(\d+)  (\d{4})  (.*?) +(\d+)u(?:  (.*))?")
 ALTERED = re.compile(r"(?:^|  )(A|X|I[1-6]|J|over|cmp) (\S+(?: \d\d)*) -> (\S+(?: \d\d)*)")

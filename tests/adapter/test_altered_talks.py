@@ -16,8 +16,6 @@ from tests.drawing import drawn_anew
 from tests.model import bundle as model
 
 HERE = os.path.dirname(os.path.abspath(__file__))
-
-
 SOURCE = os.path.join(HERE, "programs", "calls.mixal")
 TALK = [("initialize", {"adapterID": "mixrev", "linesStartAt1": True}), ("launch", {"program": SOURCE, "stopOnEntry": True}), ("configurationDone", {}),
         ("threads", {}), ("next", {"threadId": 1}), ("stackTrace", {"threadId": 1}), ("scopes", {"frameId": 1}), ("stepIn", {"threadId": 1}),

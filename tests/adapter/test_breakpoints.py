@@ -6,10 +6,9 @@ where rI1 is 3, 2, 1 and rJ is 0, 15, 15, and to cell 14 (line 8) after 4, 7 and
 import json
 import pathlib
 
-
-from tests.adapter.test_exact import HI
 from tests.adapter.frames import DONE, GOOD, answers, framed, launch, texts
 from tests.adapter.test_debug_talks import AFTER, CALLS, program
+from tests.adapter.test_exact import HI
 
 ON = "continue"
 CELL_12 = "0x0048"  # 6 * 12 is 72

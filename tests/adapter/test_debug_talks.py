@@ -25,8 +25,6 @@ import pytest
 from tests.adapter.frames import framed
 
 HERE = os.path.dirname(os.path.abspath(__file__))
-
-
 PROGRAMS = os.path.join(HERE, "programs")
 CALLS = os.path.join(PROGRAMS, "calls.mixal")
 # the state after n steps: line, location, clock

@@ -12,8 +12,6 @@ from tests.adapter.frames import DONE, GOOD, answers, frame, framed, launch, sen
 from tests.runs.bundles import bundles
 
 HERE = os.path.dirname(os.path.abspath(__file__))
-
-
 SOURCE = " ENTA 5\n INCA 7\n STA 100\n HLT\n END 0\n"
 DISCONNECT = b'Content-Length: 51\r\n\r\n{"seq":1,"type":"request","command":"disconnect"}  '
 CUT = b"mixrev: T7 input cut\n"

@@ -8,7 +8,6 @@ import statistics
 import subprocess
 import time
 
-
 from tests.adapter.frames import frame, request
 from tests.adapter.test_debug_talks import program
 

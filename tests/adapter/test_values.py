@@ -12,7 +12,6 @@ from tests.adapter.frames import DONE, GOOD, framed, launch, texts
 
 HERE = os.path.dirname(os.path.abspath(__file__))
 
-
 # The text of a line, the column of the cursor, the words, and the column and the length of the word
 # that they complete. The symbols of the program get their values in this order: two by their lines,
 # and LAST, which none defines, at END.

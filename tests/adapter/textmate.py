@@ -1,7 +1,6 @@
 """Which scopes a TextMate grammar gives the characters of lines: the part of its rules that our grammar uses (match, begin and end, captures
 with names or patterns, includes of the repository)."""
 import json
-import os
 import re
 
 
@@ -19,8 +18,7 @@ class Grammar:
 
     @staticmethod
     def read(folder):
-        with open(os.path.join(folder, "syntaxes", "mixal.tmLanguage.json")) as file:
-            return Grammar(json.load(file))
+        return Grammar(json.loads((folder / "syntaxes/mixal.tmLanguage.json").read_text()))
 
     def rules(self):
         """Each rule of the repository that has a pattern of its own."""

@@ -1,6 +1,6 @@
 """Texts that are cut at every byte, and a source whose every byte is replaced: the program against the model, and the status."""
 
-import os
+import pathlib
 
 import pytest
 
@@ -39,12 +39,11 @@ def is_an_end(answer):
 
 @pytest.mark.parametrize("part", range(20))
 def test_cut(runner, place, part):
-    file = os.path.join(place, "source")
+    file = pathlib.Path(place, "source")
     for name, text, source in [*texts()][part::20]:
         tried = [(model.run(text), runner.run(text))]
         if source is not None:
-            with open(file, "wb") as named:
-                named.write(source)
+            file.write_bytes(source)
             tried.append((model.run_list(source), runner.run(b"", ["list", file])))
         for wanted, found in tried:
             assert found == wanted, name

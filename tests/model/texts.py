@@ -1,14 +1,13 @@
 """What the documents say: the tables that a program reads too, and the faults, each with a number and a text (docs/FAULTS.md)."""
 
-import os
+import pathlib
 import re
 
-DOCS = os.path.join(os.path.dirname(os.path.abspath(__file__)), os.pardir, os.pardir, "docs")
+DOCS = pathlib.Path(__file__).resolve().parents[2] / "docs"
 
 
 def document(name):
-    with open(os.path.join(DOCS, name)) as file:
-        return file.read()
+    return (DOCS / name).read_text()
 
 
 def rows(name):

@@ -1,23 +1,11 @@
 """Talks with the debug adapter, for the comparisons: frames, requests drawn at random among the commands of a script, and what a talk made of a script."""
-
-import json
 import re
+
+from tests.adapter.frames import frame, framed, messages
+from tests.asking import line as repl
 
 REFUSED = re.compile(rb"^\? C\d .*$", re.M)
 FAULT = re.compile(r"^ran .*: fault M\d+ ", re.M)  # a reply that tells of a step at fault, which no other line of a reply looks like
-
-
-def frame(body):
-    return b"Content-Length: %d\r\n\r\n%s" % (len(body), body)
-
-
-def request(seq, command, arguments):
-    return frame(json.dumps({"seq": seq, "type": "request", "command": command, "arguments": arguments}).encode())
-
-
-def talk(requests):
-    """The bytes of requests, each a command and its arguments."""
-    return b"".join(request(seq, command, arguments) for seq, (command, arguments) in enumerate(requests, 1))
 
 
 def opening(source, deck):
@@ -26,19 +14,6 @@ def opening(source, deck):
         ("launch", {"sourceText": source, "devicesText": deck, "stopOnEntry": True}),
         ("configurationDone", {}),
     ]
-
-
-def repl(line):
-    return "evaluate", {"expression": line, "context": "repl"}
-
-
-def messages(sent):
-    """Each message in the bytes that a client was sent."""
-    while sent:
-        head, _, rest = sent.partition(b"\r\n\r\n")
-        length = int(head.removeprefix(b"Content-Length: "))
-        yield json.loads(rest[:length])
-        sent = rest[length:]
 
 
 def told(message):
@@ -140,7 +115,7 @@ def mixed(r, source, deck, lines):
     requests += [drawn(r) for _ in range(r.randrange(8))]
     if r.randrange(3):
         requests.append(("disconnect", {}))
-    sent = talk(requests)
+    sent = framed(*requests)
     kind = r.randrange(20)
     if kind == 0:
         return sent[:r.randrange(len(sent) + 1)]

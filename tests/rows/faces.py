@@ -1,6 +1,7 @@
 """The program behind its command line, for rows: each face takes texts and gives what a person would read."""
 import json
 import os
+import pathlib
 import re
 import subprocess
 import tempfile
@@ -15,8 +16,7 @@ class Program:
         self.path, self.folder = path, folder
 
     def file(self, name, text):
-        with open(os.path.join(self.folder, name), "wb") as file:
-            file.write(text)
+        pathlib.Path(self.folder, name).write_bytes(text)
         return name
 
     def run(self, words, given=b"", **environment):
