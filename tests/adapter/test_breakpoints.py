@@ -62,11 +62,6 @@ UNVERIFIED = [("setBreakpoints", {"breakpoints": [{"line": 1}]}), ("setInstructi
               watched("cell 3"), ("setExceptionBreakpoints", {"filters": ["conflict"]})]
 
 
-def source_of(path):
-    with open(path) as file:
-        return file.read()
-
-
 def stops(command, source, requests):
     """Why the program stopped last, with the location and the clock, where these are asked for."""
     found, ended = texts(command, framed(launch(source), DONE, *requests))
@@ -80,7 +75,7 @@ def stops(command, source, requests):
 
 
 def test_runs(command):
-    source = source_of(CALLS)
+    source = pathlib.Path(CALLS).read_text()
     for pieces in runs():
         asked, wanted = [], []
         for name, given, *steps in pieces:
@@ -90,14 +85,14 @@ def test_runs(command):
 
 
 def test_long_runs(command):
-    source = source_of(program("endless.mixal"))
+    source = pathlib.Path(program("endless.mixal")).read_text()
     for points, reason, steps in LONG:
         assert stops(command, source, [points, (ON, {"threadId": 1}), ("mix/state", {})]) == ([(reason, 0, steps)], GOOD), f"{points}"
 
 
 def test_verified(command):
     """How a breakpoint is told, of a line and of an instruction."""
-    source = source_of(CALLS)
+    source = pathlib.Path(CALLS).read_text()
     stands = [{"instructionReference": CELL_12, "line": 6, "verified": True}, {"instructionReference": CELL_12, "verified": True}]
     rows = [(given, stands) for given in GOOD_TEXTS] + [(given, [{"message": why, "verified": False}] * 2) for given, why in BAD_TEXTS]
     for given, wanted in rows:

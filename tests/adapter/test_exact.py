@@ -3,15 +3,13 @@
 What a client sends as bytes, the messages that come back as they stand there, and where each request leads. Every value that is wanted is worked out by
 hand from docs/DAP.md and docs/MACHINE.md."""
 import json
-import os
+import pathlib
 import re
 import subprocess
-import tempfile
 
 from tests.adapter.frames import DONE, GOOD, answers, frame, framed, launch, sent, states, texts
 from tests.runs.bundles import bundles
 
-HERE = os.path.dirname(os.path.abspath(__file__))
 SOURCE = " ENTA 5\n INCA 7\n STA 100\n HLT\n END 0\n"
 DISCONNECT = b'Content-Length: 51\r\n\r\n{"seq":1,"type":"request","command":"disconnect"}  '
 CUT = b"mixrev: T7 input cut\n"
@@ -81,8 +79,7 @@ REPLIED = '{"body":{"line":"show counts","result":"         0           0  0000 
 
 def rows_of(part):
     """The rows of a part of exact.rows: a request by its name and its arguments, and what is wanted."""
-    with open(os.path.join(HERE, "exact.rows")) as file:
-        text = file.read().partition(f"\n[{part}]\n")[2].partition("\n[")[0]
+    text = pathlib.Path(__file__).with_name("exact.rows").read_text().partition(f"\n[{part}]\n")[2].partition("\n[")[0]
     for row in re.finditer(r"^([\w/]+) (.*) => (.*)$", text, re.M):
         yield row[1], json.loads(row[2]), row[3]
 
@@ -213,13 +210,11 @@ def test_console(command):
     where(command, "console", [launch(TYPED)])
 
 
-def test_reports(command):
+def test_reports(command, tmp_path):
     """A launch tells the report that `mixrev check` writes, after its answer and before all else, and nothing of a source without a fault or a warning."""
     for source in CHECKED:
-        with tempfile.TemporaryDirectory() as folder:
-            with open(os.path.join(folder, "a.mixal"), "w", encoding="utf-8") as file:
-                file.write(source)
-            ran = subprocess.run([command[0], "check", "a.mixal"], cwd=folder, capture_output=True, text=True)
+        (tmp_path / "a.mixal").write_text(source, encoding="utf-8")
+        ran = subprocess.run([command[0], "check", "a.mixal"], cwd=tmp_path, capture_output=True, text=True)
         wanted = [("launch", ran.returncode == 0)] + [("stderr", ran.stdout)] * (ran.stdout != "") + [("initialized",)] * (ran.returncode == 0)
         found = [json.loads(text) for text in texts(command, framed(("launch", {"program": "a.mixal", "sourceText": source})))[0]]
         same = [(it["command"], it["success"]) if it["type"] == "response" else

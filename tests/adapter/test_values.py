@@ -4,13 +4,11 @@ By variables, as bytes of the memory and by expressions, what a hover says, and 
 docs/DAP.md and the commands of docs/FORMATS.md, for the program that test_debug_talks.py describes."""
 import base64
 import json
-import os
 import re
 
-from tests.adapter.test_debug_talks import AFTER, CALLS
+from machine import rows
 from tests.adapter.frames import DONE, GOOD, framed, launch, texts
-
-HERE = os.path.dirname(os.path.abspath(__file__))
+from tests.adapter.test_debug_talks import AFTER, CALLS
 
 # The text of a line, the column of the cursor, the words, and the column and the length of the word
 # that they complete. The symbols of the program get their values in this order: two by their lines,
@@ -139,10 +137,8 @@ def test_evaluates(talk):
 
 def test_hovers(command):
     """A hover over an operation says what docs/operations.tsv says of it; a watch, and any other name, does not."""
-    with open(os.path.join(HERE, os.pardir, os.pardir, "docs", "operations.tsv")) as file:
-        rows = [line.rstrip("\n").split("\t") for line in file][1:]
     wanted = {}
-    for name, *_, sentence in rows:
+    for name, *_, sentence in rows("operations.tsv"):
         sentence = re.sub(r"{([VMF])}", r"\1", sentence).replace("{cell}", "cell M").replace("{line}", "M")
         for short, register in (("A", "rA"), ("X", "rX"), *((str(n), f"rI{n}") for n in range(1, 7))) if "r" in name else (("", ""),):
             wanted[name.replace("r", short)] = sentence.replace("{r}", register)
