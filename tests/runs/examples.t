@@ -1,4 +1,4 @@
-Each bundle of examples/ writes what the file beside it says. `tests/examples` says why that is right.
+Each bundle of examples/ writes what the file beside it says. `tests/test_examples.py` says why that is right.
 
   $ set -o pipefail
   $ writes() { mixrev <"$TESTDIR/../../examples/$1.mixal" | diff "$TESTDIR/../../examples/$1.stdout" -; }

@@ -1,20 +1,16 @@
-#!/usr/bin/env -S sh -c 'exec "${0%/*}/python" "$0" "$@"'
 """What each of these examples must write, worked out from known facts and by counting.
 
 No machine is run here. Primes, Easter dates, the inverse and the product come from other methods than those of the programs; steps and
 times come from how often each part of a program is done, by the times of 1.3.1."""
 
-import argparse
 import re
 import string
-import sys
 
-
-from tests.asking import TOP, change, registers, row, written
-
+import pytest
 
 from counting import time_of
 from first_programs import is_prime
+from tests.asking import TOP, change, registers, row, written
 
 EXAMPLES = TOP / "examples"
 PRIMES = [n for n in range(2, 4000) if is_prime(n)][:500]
@@ -230,15 +226,8 @@ def counts_of_primes():
 
 FACTS = {"04_largest": largest, "05_primes": primes, "06_cycles": cycles, "07_inverse": inverse, "08_easter": easter, "09_bill": bill,
          "11_who_wrote_it": who_wrote_it, "12_counts_of_primes": counts_of_primes}
-asked = argparse.ArgumentParser(description=__doc__)
-asked.add_argument("--write", action="store_true", help="write the files, and do not compare them")
-write, wrong = asked.parse_args().write, 0
-for name, fact in FACTS.items():
-    wanted, file = "".join(line + "\n" for line in fact()), EXAMPLES / f"{name}.stdout"
-    if write:
-        file.write_text(wanted)
-    elif file.read_text() != wanted:
-        wrong += 1
-        print(f"{file.name} is not what the facts say")
-print("%d examples, %d not as the facts say" % (len(FACTS), wrong))
-sys.exit(1 if wrong else 0)
+
+
+@pytest.mark.parametrize("name", FACTS)
+def test_example(name):
+    assert (EXAMPLES / f"{name}.stdout").read_text() == "".join(f"{line}\n" for line in FACTS[name]())
