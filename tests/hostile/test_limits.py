@@ -1,6 +1,7 @@
 """Inputs at each limit and one past it, and inputs that never end. Each answer is worked out here, from the rules alone."""
 
 import os
+import pathlib
 import subprocess
 
 import pytest
@@ -58,8 +59,7 @@ def test_endless_file(runner, place):
 def test_endless_files(program, place, monkeypatch, words, wanted):
     """Files that never end, of blank lines: a source, a script, cards, lines for the typewriter."""
     monkeypatch.chdir(place)
-    with open("source", "wb") as file:
-        file.write(b" END 0")
+    pathlib.Path("source").write_bytes(b" END 0")
     assert fed("exec yes ''", program, *words.split()) == wanted
 
 
@@ -182,8 +182,7 @@ def by_files(place):
     """The same of files that the command line names: words, what is wanted. A part at its limit is read, and one byte over it is refused."""
     source, script, deck, zero = (os.path.join(place, name) for name in ("source", "script", "deck", "long"))
     for name, text in [(source, END), (script, b"show clock\n"), (deck, b"\n")]:
-        with open(name, "wb") as file:
-            file.write(text)
+        pathlib.Path(name).write_bytes(text)
     long_source = (b"line 1: A16 source too long\n", b"", 1)
     clock = (b"clock 0\n", b"", 0)
     yield ["list", "/dev/zero"], long_source
@@ -195,8 +194,7 @@ def by_files(place):
         for part, text, wanted in [
                 (0, filled(END, SOURCE + over), long_source), (1, filled(b"show clock\n", SCRIPT + over), T6),
                 (2, filled(b"", DECK + over, b" "), refused_deck(1, b"K9 deck too long"))]:
-            with open(zero, "wb") as file:
-                file.write(text)
+            pathlib.Path(zero).write_bytes(text)
             files = [zero if part == k else name for k, name in enumerate((source, script, deck))]
             yield ["debug", files[0], files[1], "--devices", files[2]], wanted if over else clock
 

@@ -4,6 +4,7 @@ Of a text of one, two and four lengths the step from two to four takes twice the
 bytes that it asks for, after ten, a thousand and a million changes."""
 
 import os
+import pathlib
 import re
 import shutil
 import subprocess
@@ -71,10 +72,8 @@ def test_text(program, place, name, text, length):
 @pytest.mark.parametrize("size", [*SIZES[:2], pytest.param(SIZES[2], marks=pytest.mark.full)])
 def test_table(program, place, refuse, size):
     """What each command takes, by callgrind and by a library that notes what is asked for, each up to the write of its reply."""
-    with open(os.path.join(place, "source"), "wb") as file:
-        file.write(SOURCE)
-    with open(os.path.join(HERE, "costs.txt")) as file:
-        rows = [line for line in file.read().splitlines() if line[0] != "#"]
+    pathlib.Path(place, "source").write_bytes(SOURCE)
+    rows = [line for line in pathlib.Path(HERE, "costs.txt").read_text().splitlines() if line[0] != "#"]
     costs = [line[2:] for line in rows if line[0] == " " or size < SIZES[-1]]
     names = [re.match(r"(.*?)  ", line)[1] for line in costs]
     script = "".join(name.replace("N", str(size)).replace("M", str(size - 1)) + "\n" for name in names).encode()
@@ -92,15 +91,13 @@ def counted(program, place, script):
     """The instructions between each write and the next."""
     subprocess.run(["valgrind", "--tool=callgrind", "--callgrind-out-file=%s/part" % place, "--dump-before=write", program, "debug", "%s/source" % place], input=script, capture_output=True)
     for k in range(1, script.count(b"\n") + 1):
-        with open("%s/part.%d" % (place, k)) as file:
-            yield int(re.search(r"^summary: (\d+)", file.read(), re.M)[1])
+        yield int(re.search(r"^summary: (\d+)", pathlib.Path(f"{place}/part.{k}").read_text(), re.M)[1])
 
 
 def asked(program, place, script, library):
     """The bytes that are asked for between each write and the next."""
-    told = os.path.join(place, "asked")
+    told = pathlib.Path(place, "asked")
     subprocess.run([program, "debug", "%s/source" % place], input=script, capture_output=True, env={**os.environ, "LD_PRELOAD": library, "ASKED_TO": told, "CALLED_TO": told})
-    with open(told) as file:
-        parts = re.split(r"write .*\n", file.read())
-    os.unlink(told)
+    parts = re.split(r"write .*\n", told.read_text())
+    told.unlink()
     return [sum(map(int, re.findall(r"^\d+$", part, re.M))) for part in parts]

@@ -1,5 +1,7 @@
 """Calls that may answer out of memory, or be cut, each at its documented limit with memory enough: they do neither. What is due is worked out here, by the rules."""
 
+import pathlib
+
 import pytest
 
 from tests.adapter.frames import BODY, frame, messages, request
@@ -98,8 +100,7 @@ def test_dialogues(runner, elsewhere):
 
 def write(texts):
     for name, text in texts.items():
-        with open(name, "wb") as file:
-            file.write(text)
+        pathlib.Path(name).write_bytes(text)
 
 
 @pytest.fixture
@@ -111,5 +112,4 @@ def test_runs(runner, elsewhere):
     for files, words, wanted in runs():
         write(files)
         assert runner.run(files.get("in", b""), words.split()) == wanted, words
-    with open("kept", "rb") as kept:
-        assert kept.read() == FULL
+    assert pathlib.Path("kept").read_bytes() == FULL

@@ -2,6 +2,7 @@
 the reader of a pipe has gone, and what was written is a beginning of what is due."""
 
 import os
+import pathlib
 import pty
 import shlex
 import subprocess
@@ -70,8 +71,7 @@ def test_calls(program, place, refuse):
         if os.path.exists(told):
             os.unlink(told)
         answer = subprocess.run([program], stdin=stdin, capture_output=True, timeout=SECONDS, env={**os.environ, "LD_PRELOAD": refuse, "CALLED_TO": told})
-        with open(told) as file:
-            return (answer.stdout, answer.stderr, answer.returncode), file.read().splitlines()
+        return (answer.stdout, answer.stderr, answer.returncode), pathlib.Path(told).read_text().splitlines()
 
     # nothing is there to be read yet, and the writer is still there: it is no end, and to try again
     # would be to wait
@@ -84,8 +84,7 @@ def test_calls(program, place, refuse):
     # 22 bytes a cell, 1,200,036 bytes a full tape
     tape = (b" ".join([b"+0102030405"] * 100) + b"\n") * 1000
     text = bundle(b" END 0\n", lines("show cells 0 2978", "show unit 0", "show all"), b"".join(b"%%UNIT %d\n" % unit + tape for unit in range(4)))
-    with open(name, "wb") as file:
-        file.write(text)
+    pathlib.Path(name).write_bytes(text)
     with open(name, "rb") as file:
         (output, _, status), called = run(file)
     sizes = [2979 * 22, 1200036, len(output) - 2979 * 22 - 1200036]
@@ -98,8 +97,7 @@ def test_files(program, place):
     """Files that cannot be opened or read, and outputs that fail, of a program that reads a command line."""
     source, script = os.path.join(place, "source"), os.path.join(place, "script")
     for name, text in [(source, HELLO), (script, GREETED)]:
-        with open(name, "wb") as file:
-            file.write(text)
+        pathlib.Path(name).write_bytes(text)
     gone = os.path.join(place, "gone")
     not_opened = (b"", b"mixrev: T4 not opened: %s%s\n" % (gone.encode(), NO_FILE), 2)
     is_folder, input_is_folder = ((b"", b"mixrev: T4 not opened: %s%s\n" % (file, FOLDER), 2) for file in (b"/", b"-"))
@@ -201,9 +199,9 @@ COMMANDS = [
 def named(place):
     """The name of a file with the bundle, or with one whose replies are long."""
     def written(text=TEXT):
-        with open(os.path.join(place, "bundle"), "wb") as file:
-            file.write(text)
-        return file.name
+        path = pathlib.Path(place, "bundle")
+        path.write_bytes(text)
+        return str(path)
 
     return written
 

@@ -45,10 +45,9 @@ class Turns:
 
     def file(self, name, text):
         """The name of a file with this text."""
-        name = os.path.join(self.place, name)
-        with open(name, "wb") as file:
-            file.write(text)
-        return name
+        path = pathlib.Path(self.place, name)
+        path.write_bytes(text)
+        return str(path)
 
     def run(self, text, words=(), **bounds):
         """Standard output, standard error and the status, and each call with what it gave."""
@@ -56,8 +55,7 @@ class Turns:
             os.unlink(self.told)
         given = {name.upper(): str(bound) for name, bound in bounds.items()}
         answer = self.runner.run(text, words, {"LD_PRELOAD": self.library, "CALLED_TO": self.told, **given})
-        with open(self.told) as file:
-            return answer, file.read().split("\n")[:-1]
+        return answer, pathlib.Path(self.told).read_text().split("\n")[:-1]
 
     def read_fails(self, name, text, words, call, file=None):
         """This read fails, of the input or of a file, which is told: nothing is written, and nothing is called after it."""

@@ -40,13 +40,8 @@ def parts(line):
             found.append(("macro", rest, rest + literal))
             address, start = address[literal:], rest + literal
         for atom in re.finditer("[A-Za-z0-9]+", address):
-            found.append(
-                (
-                    "number" if atom.group().isdigit() else "variable",
-                    start + atom.start(),
-                    start + atom.end(),
-                )
-            )
+            kind = "number" if atom.group().isdigit() else "variable"
+            found.append((kind, start + atom.start(), start + atom.end()))
     found.append(("comment", re.compile(r"[ \t]*").match(line, end).end(), len(line)))
     return [one for one in found if one[1] < one[2]]
 

@@ -1,5 +1,6 @@
 """Runs of the built program, its standard input a file."""
 import os
+import pathlib
 import subprocess
 
 SECONDS = 300  # a slow machine takes more than a minute to tell a million steps
@@ -14,8 +15,7 @@ class Runner:
     def write(self, text, part=""):
         """The name of a file that holds this: that of standard input, or of one part more."""
         name = os.path.join(self.place, f"in{part}")
-        with open(name, "wb") as file:
-            file.write(text)
+        pathlib.Path(name).write_bytes(text)
         return name
 
     def run(self, text, words=(), environment=None):

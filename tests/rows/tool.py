@@ -1,8 +1,8 @@
 """Kinds of rows of the program as a whole: sessions, runs that print, and the files of each plan."""
-import json
 import os
 import re
 
+from tests.adapter.frames import framed, messages
 from tests.rows.faces import bytes_of
 from tests.rows.stream_rows import called
 
@@ -44,10 +44,8 @@ def completing(program, fields, _):
     source, line = fields
     asked = [("initialize", {}), ("launch", {"sourceText": bytes_of(source).decode(), "stopOnEntry": True}), ("configurationDone", {}),
              ("completions", {"text": line, "column": len(line) + 1}), ("disconnect", {})]
-    bodies = [json.dumps({"seq": at, "type": "request", "command": name, "arguments": given}).encode() for at, (name, given) in enumerate(asked, 1)]
-    output, _, _ = program.run(["dap"], b"".join(b"Content-Length: %d\r\n\r\n%s" % (len(body), body) for body in bodies))
-    told = [json.loads(body) for body in re.split(rb"Content-Length: \d+\r\n\r\n", output)[1:]]
-    return " ".join(target["label"] for message in told if message.get("command") == "completions" for target in message["body"]["targets"])
+    output, _, _ = program.run(["dap"], framed(*asked))
+    return " ".join(target["label"] for message in messages(output) if message.get("command") == "completions" for target in message["body"]["targets"])
 
 
 # Runs that print
