@@ -1,10 +1,11 @@
-"""The exercises of the lessons on numbers, on counting and lists, and on Fibonaccian search: what their programs must leave, by Python's own numbers."""
+"""The exercises of the lessons on numbers, on counting and lists, on Fibonaccian search and tries: what their programs must leave, by Python's own numbers."""
 from arithmetic import WORD, digits_of, permuted, sums_of, words_of
 from exercise import Case, Exercise
 from merging import beginnings, runs_of
 from more_sorting import hundreds, linked, radix_parts
 from permutations import drawn_formula, images_of, taken
 from searching import FIBONACCI, fibonacci_moves
+from trees import constants_of, drawn_words, looked_at, trie_of
 
 
 def magic_or_not(draw, size):
@@ -37,6 +38,15 @@ def any_size(draw, n):
     numbers = [FIBONACCI[order - at] for at in range(3)]
     looks = fibonacci_moves(order, place or sum(key < wanted for key in keys) + 0.5)[0]
     return Case({"N": n, "WANTED": wanted, "data": keys, "numbers": numbers}, [place], ("I1",), (f"clock <= {20 + 15 * order}",), (f"LOOK = {looks}",))
+
+
+def growing_trie(draw, n):
+    """The letters that are looked at when a word comes depend on the words up to it; each new node takes one more comparison."""
+    row, root = drawn_words(draw, n), 2000 + draw.number(0, 99)
+    words = list(dict.fromkeys(row))
+    trie, looked = trie_of(words, root), sum(len(looked_at(word, list(dict.fromkeys(row[:at])))) for at, word in enumerate(row, 1))
+    return Case({"N": n, "TRIE": root, "data": constants_of(row)}, [*(words.index(word) + 1 for word in row), *trie],
+                (*(f"PLACE+{j}" for j in range(1, n + 1)), f"TRIE TRIE+{len(trie) - 1}"), (f"clock <= {50 * n + 15 * looked + 5 * len(trie)}",))
 
 
 def by_digits(draw, n):
@@ -109,6 +119,7 @@ EXERCISES = [
     Exercise("19_magic_square", magic_or_not, (30, 31, 32, 33, 53, 73, 93, 50, 113), (("ENT2 N+1", "ENT2 N"), ("JNE BAD", "NOP BAD"))),
     Exercise("54_list_insertion", ten_lists, (1, 2, 12, 60), (("DIV =100=", "DIV =10="), ("JLE PUT", "JGE PUT"))),
     Exercise("68_fibonaccian_search", any_size, (1, 4, 12, 20, 21, 30, 16, 31), (("JG DOWN", "NOP DOWN"), ("DEC2 0,3", "DEC2 1"))),
+    Exercise("69_tries", growing_trie, (1, 2, 40, 12, 60), (("SLAX 1,5", "SLAX 0,5"), ("INC3 8", "INC3 7"), ("JE DONE", "NOP DONE"))),
     Exercise("70_comparison_counting", by_digits, (1, 2, 9, 60), (("DEC3 1", "NOP 1"), ("CMP2 =10=", "CMP2 =9="))),
     Exercise("71_merge_exchange", transposed, (2, 3, 9, 30), (("INC3 2", "INC3 1"), ("ENT2 1", "ENT2 2"))),
     Exercise("72_radix_exchange", kth_smallest, (1, 2, 3, 9, 80), (("JLE 1F", "JL 1F"), ("STA LOW", "NOP LOW"))),

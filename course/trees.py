@@ -1,9 +1,10 @@
-"""Facts of the lessons on trees: the orders of a tree and what it reaches by recursion, its threads by the order; balanced trees by heights measured anew."""
+"""Facts of the lessons on trees: orders and what is reached by recursion, threads by the order; balance by heights measured anew; tries by beginnings of words."""
 import itertools
 import random
 
 from counting import RUN, Lesson, times
 from deleting import columns_of, subtree, way_to
+from exercise import Draw
 
 
 def drawn_tree(nodes, number):
@@ -178,9 +179,59 @@ def higher(tree):
         tree = tree[1 if lean(tree) < 0 else 2]
 
 
+def drawn_words(draw, n):
+    """Words of one to five letters from A to G, half of which begin as an earlier one, or are the same."""
+    words = []
+    for at in range(n):
+        begin = draw.one_of(words).strip()[: draw.number(1, 5)] if at % 2 else ""
+        words.append(f"{begin}{''.join(draw.one_of('ABCDEFG') for _ in range(draw.number(not begin, 5 - len(begin))))}".ljust(5))
+    return words
+
+
+def constants_of(words):
+    return [f'        ALF  "{word}"' for word in words]
+
+
+def begun(words, begin):
+    """The numbers of the words that begin so."""
+    return [number for number, word in enumerate(words, 1) if word.startswith(begin)]
+
+
+def trie_of(words, root):
+    """The entries of a trie: it has a node for each beginning of two words, in the order in which the second of them came."""
+    begins = {word[:length] for word in words for length in range(1, 5)}
+    nodes = ["", *sorted((begin for begin in begins if begun(words, begin)[1:]), key=lambda begin: (begun(words, begin)[1], len(begin)))]
+    return [root + 8 * nodes.index(begin) if begin in nodes else -sum(begun(words, begin)) for node in nodes for begin in (node + one for one in " ABCDEFG")]
+
+
+def looked_at(word, words):
+    """The letters of a word up to the first with which fewer than two words begin so."""
+    return next(word[:length] for length in range(1, 6) if not begun(words, word[:length])[1:])
+
+
+def tries(run):
+    for n in (1, 2, 8, 20, 50):
+        row = drawn_words(Draw("tries", str(n)), n)
+        words = list(dict.fromkeys(row[: n // 2 + 1]))
+        looks = [looked_at(word, words) for word in row]
+        blocks = {"words": constants_of(words), "data": constants_of(row), "trie": ["        ORIG TRIE", *trie_of(words, 2000)]}
+        ran = run(N=n, data=blocks, script=[*RUN, "show values PLACE+1 PLACE+N"])
+        yield f"the numbers of {row}", ran.numbers(), [sum(begun(words, word)) if word in words else 0 for word in row]
+        yield from times(ran, N=n, C=len("".join(looks)), W=sum(len(begun(words, look)) for look in looks), F=sum(word in words for word in row))
+        words = list(dict.fromkeys(row))
+        trie = trie_of(words, 2000)
+        shows = ["show values PLACE+1 PLACE+N", f"show values TRIE TRIE+{len(trie) - 1}"]
+        ran = run("answer.mixal", N=n, data=constants_of(row), script=[*RUN, *shows])
+        yield f"the numbers that {row} get", ran.numbers(shows[0]), [words.index(word) + 1 for word in row]
+        yield "the trie that grows", ran.numbers(shows[1]), trie
+        looks = [looked_at(word, list(dict.fromkeys(row[:at]))) for at, word in enumerate(row, 1)]
+        yield from times(ran, N=n, C=len("".join(looks)), S=len(trie) // 8 - 1, F=n - len(words))
+
+
 LESSONS = [
     Lesson("40_tree_stack", tree_stack, ("INC3 1", "INC3 2")),
     Lesson("41_tree_threads", tree_threads, ("JANN LEFT", "JAN  LEFT")),
     Lesson("42_marking", marking, ("ENTA 2", "ENTA 3")),
     Lesson("64_balanced_tree", balanced_tree, ("LD5N SIDE", "LD5 SIDE")),
+    Lesson("69_tries", tries, ("INC2 0,3", "INC2 1,3")),
 ]
