@@ -47,12 +47,11 @@ A value that is given counts, even if it is wrong; of two the first. It may be a
 A value that is not given is found: N is 3 by line 2, which gave it and so checks nothing. Of B-A both are missing at first, B is 2 by line 3,
 and then A is 0, as 2-A is 2. C-D stays without a value, until D is given: then C is 3.
 
-  $ mixrev run sum.mixal --formulas '' </dev/null >found; mixrev run sum.mixal --formulas N=3 </dev/null | diff - found
-  3c3
-  < 2,3,3,N,3,yes
-  ---
-  > 2,3,3,N,3,gave
-  [1]
+  $ mixrev run sum.mixal --formulas '' </dev/null >found; mixrev run sum.mixal --formulas N=3 </dev/null | diff - found | sed 's/^/|/'
+  |3c3
+  |< 2,3,3,N,3,yes
+  |---
+  |> 2,3,3,N,3,gave
   $ printf ' ENT1 2\nLOOP DEC1 1 [B-A]\n J1P LOOP [B]\n HLT 0 [C-D]\n END 0\n' >two.mixal
   $ mixrev run two.mixal --formulas '' </dev/null
   line,count,time,formula,value,fits
@@ -167,7 +166,7 @@ A fault and the end of the steps are reported as of any run, and the instruction
   $ printf ' JMP 0 [N]\n END 0\n' >loop.mixal
   $ mixrev run loop.mixal --formulas '' --steps 5 </dev/null
   line,count,time,formula,value,fits
-  1,5,5,N,5,yes
+  1,5,5,N,5,gave
   stderr: loop.mixal:1: steps used up at 0000 clock 5
   [3]
   $ printf ' IN 100(16) [1]\n OUT 100(20)\n HLT\n END 0\n' >copy.mixal

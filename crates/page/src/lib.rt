@@ -196,7 +196,7 @@ fn answered(alloc: Global, input: &[u8]) -> Answer
 }
 
 // Puts two texts at the beginning of a room, unless they are longer than it.
-#[tactic(auto, using(crate::proofs::EngineLemmas::both_put))]
+#[tactic(auto, using(crate::proofs::TalkLemmas::both_put))]
 fn put_both(out: &mut [u8], first: &[u8], second: &[u8]) -> bool
     ensures fits { (result ≡ true) ↔ (length first.now + length second.now ≤ length out.old) }
     ensures put { result ≡ true → out.new ≡ first.now ++ second.now ++ drop (length first.now + length second.now) out.old }
