@@ -72,7 +72,11 @@ fn text_help(alloc: Global, fault: TextFault, piece: &[u8]) -> Result<Vec<u8>, A
         | TextFault::NoSuchLocalSymbol => add_piece(&mut help, piece)?,
         _ => {}
     }
-    let rule = if note.is_empty() { text_rule(fault) } else { note };
+    let rule = if note.is_empty() {
+        text_rule(fault)
+    } else {
+        note
+    };
     help.extend_from_slice(rule.as_bytes())?;
     Ok(help)
 }

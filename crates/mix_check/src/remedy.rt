@@ -32,11 +32,7 @@ impl<'s> Checked<'s> {
 }
 
 // An operation that is near to a name of none, or to the LOC before it.
-fn operation_remedy(
-    alloc: Global,
-    front: &[u8],
-    piece: &[u8],
-) -> Result<Option<String>, Memory> {
+fn operation_remedy(alloc: Global, front: &[u8], piece: &[u8]) -> Result<Option<String>, Memory> {
     if let Some(name) = near_to(alloc, piece)? {
         return Ok(Some(format!(in alloc; "perhaps {name} is meant")?));
     }

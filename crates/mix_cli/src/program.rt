@@ -40,8 +40,7 @@ pub(crate) struct Subcommand<'a> {
     pub(crate) arguments: &'a [Argument<'a>],
 }
 
-fn arg_of<'a>(alloc: Global, argument: &Argument<'a>) -> Arg<'a>
-{
+fn arg_of<'a>(alloc: Global, argument: &Argument<'a>) -> Arg<'a> {
     let name = argument.name;
     let arg = Arg::new(alloc, name).help(argument.help);
     match argument.kind {
@@ -65,8 +64,7 @@ fn arg_of<'a>(alloc: Global, argument: &Argument<'a>) -> Arg<'a>
 }
 
 // A subcommand. If it has arguments, it shows its help where it is given no word.
-fn command_of<'a>(alloc: Global, row: &Subcommand<'a>) -> Result<Command<'a>, AllocError>
-{
+fn command_of<'a>(alloc: Global, row: &Subcommand<'a>) -> Result<Command<'a>, AllocError> {
     let mut command = Command::new(alloc, row.name)
         .about(row.about)
         .after_help(row.more)
@@ -78,8 +76,7 @@ fn command_of<'a>(alloc: Global, row: &Subcommand<'a>) -> Result<Command<'a>, Al
 }
 
 /// The definitions by which clap reads the words.
-pub(crate) fn program<'a>(alloc: Global) -> Result<Command<'a>, AllocError>
-{
+pub(crate) fn program<'a>(alloc: Global) -> Result<Command<'a>, AllocError> {
     let mut command = Command::new(alloc, "mixrev")
         .about(ABOUT)
         .version(VERSION)

@@ -38,20 +38,33 @@ impl fmt::Display for Vain {
 type Choice = (&'static str, &'static str);
 
 const SOURCE: &str = "<SOURCE>";
+
 const CARDS: &str = "--cards <FILE>";
+
 const TYPEWRITER: &str = "--typewriter <FILE>";
+
 const KEEP: &str = "--keep <FILE>";
+
 const SVG: &str = "--svg <FILE>";
 
 const COUNTS: Choice = ("counts", "--counts");
+
 const FORMULAS: Choice = ("formulas", "--formulas <NAMES>");
+
 const WRITES: Choice = ("writes", "--writes <PART>");
+
 const TRACE: Choice = ("trace", "--trace");
+
 const CSV: Choice = ("csv", "--csv");
+
 const JSON: Choice = ("json", "--json");
+
 const LATEX: Choice = ("latex", "--latex");
+
 const STRICT: Choice = ("strict", "--strict");
+
 const REGISTERS: Choice = ("registers", "--registers");
+
 const UNIT: Choice = ("unit", "--unit <N>");
 
 // Whether an option is chosen: one with a value by its value.
@@ -65,7 +78,10 @@ fn is_chosen(words: &ArgMatches<'_>, choice: Choice) -> bool {
 
 // The first of some options that is chosen.
 fn chosen_of(words: &ArgMatches<'_>, options: &[Choice]) -> Option<Choice> {
-    options.iter().copied().find(|option| is_chosen(words, *option))
+    options
+        .iter()
+        .copied()
+        .find(|option| is_chosen(words, *option))
 }
 
 // The first two of some options that are both chosen.

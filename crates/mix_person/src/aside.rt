@@ -117,7 +117,10 @@ fn part_text(alloc: Global, session: &Session, name: &[u8]) -> Result<Vec<u8>, M
     let mut rest = all.as_slice();
     while !rest.is_empty() {
         let (line, after) = split_line(rest);
-        if Words::of(line).next().is_some_and(|word| word.eq_ignore_ascii_case(name)) {
+        if Words::of(line)
+            .next()
+            .is_some_and(|word| word.eq_ignore_ascii_case(name))
+        {
             text.extend_from_slice(line)?;
             text.push(b'\n')?;
         }
