@@ -7,7 +7,7 @@ import { Picture } from "./pictures.js";
 
 const [HOLDS, FAILS] = [["✓ ", "holds"], ["✗ ", "fails"]];
 const VERDICTS = { ok: HOLDS, true: HOLDS, no: FAILS, false: FAILS };
-const FORMULA = /^ *(\d+) +(\S+)  (ok|no|gave|\?) +(\d+)  (.*)$/; // count, value, whether they are equal, line, its text
+const FORMULA = /^ *(\d+) +(\S+)  (ok|no|gave|\?) +(\d+)  (.*)$/; // count, value, verdict, line, its text
 
 export function csvOf(rows) {
   const spelled = (text) => (/^(?!-\d+$)[=+@\t\r-]/.test(text) ? `'${text}` : text); // no formula of a spreadsheet
