@@ -1,10 +1,9 @@
 """Kinds of rows of sources: their words, symbols and faults."""
-import os
-import pty
 import re
-import subprocess
 
-from tests.rows.faces import bytes_of, shown
+import pexpect
+
+from tests.rows.faces import LIMIT, bytes_of, shown
 
 
 def of_each(item):
@@ -48,27 +47,17 @@ def cells(program, source, line):
 def definitions(program, source, symbol):
     """At a terminal `list` shows the lines around a definition, the last of them the fourth after it."""
     listed = talk(program, source + b"\n*" * 9, f"list {symbol}")
-    numbers = re.findall(r"(?m)^(?:\(mixrev\) )? {0,4}(\d+)[> ] ", listed.rpartition("quit")[2])
+    numbers = re.findall(r"(?m)^(?:\(mixrev\) )? {0,4}(\d+)[> ] ", listed)
     return str(int(numbers[-1]) - 4) if numbers else "none"
 
 
 def talk(program, source, line):
-    ours, theirs = pty.openpty()
-    child = subprocess.Popen([program.path, "debug", program.file("s", source)], stdin=theirs, stdout=theirs, stderr=theirs, cwd=program.folder)
-    os.close(theirs)
-    os.write(ours, f"{line}\nquit\n".encode())
-    written = b""
-    while True:
-        try:
-            part = os.read(ours, 4096)
-        except OSError:
-            break
-        if not part:
-            break
-        written += part
-    child.wait()
-    os.close(ours)
-    return written.decode("latin-1").replace("\r\n", "\n")
+    """What is written at a terminal without echo, so that no line typed ahead stands between."""
+    words = ["debug", program.file("s", source)]
+    child = pexpect.spawn(program.path, words, cwd=program.folder, echo=False, timeout=LIMIT)
+    child.send(f"{line}\nquit\n")
+    child.expect(pexpect.EOF)
+    return child.before.decode("latin-1").replace("\r\n", "\n")
 
 
 def symbols(program, fields, _):
