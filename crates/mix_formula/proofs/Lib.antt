@@ -1,4 +1,3 @@
 mod ArithmeticLemmas
 mod FormulaLemmas
-mod FoundLemmas
 mod TextLemmas

@@ -2,10 +2,9 @@
 pub use Rattle.mix_formula.specs.Arithmetic.{within}
 pub use Rattle.mix_formula.specs.Formula.{part_by, product_by}
 unfoldable pub use Rattle.mix_formula.specs.Formula.{links, product_operator, sum_at, sum_operator}
-pub use Rattle.mix_formula.specs.Found.{all_values, first_found, first_without, is_count}
-unfoldable pub use Rattle.mix_formula.specs.Found.{names_from, steps}
+pub use Rattle.mix_formula.specs.Found.{is_count}
 unfoldable pub use Rattle.mix_formula.specs.Given.{given_of}
-pub use Rattle.mix_formula.specs.Names.{NameValue, all_named, named, names_of, value_in}
+pub use Rattle.mix_formula.specs.Names.{NameValue, all_named, has_given, named, names_of, value_in}
 pub use Rattle.mix_formula.specs.Rows.{RowValue, all_rows}
 pub use Rattle.mix_formula.specs.Text.{unblanked}
 unfoldable pub use Rattle.mix_formula.specs.Text.{after_word, bracket_of, is_name, word_in}

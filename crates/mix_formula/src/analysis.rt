@@ -1,10 +1,10 @@
 //! The counts of a program beside its formulas: the table, the names with their values, the time as a sum, and how many lines agree.
 
 use crate::arithmetic::{Operator, Reckoned, outcome};
-use crate::found::{all_values, from_word, is_count, natural, part_of};
-use crate::names::{Named, has_given, is_same_name, value_in};
+use crate::found::{Verdict, all_values, natural, part_of, verdict_of};
+use crate::names::{Named, is_same_name, value_in};
 use crate::rows::{Row, formula_in};
-use crate::text::{after_opening, is_name, split_word};
+use crate::text::{after_opening, is_name};
 use crate::value::{Value, told, value_of};
 use mix_refused::Memory;
 use std::alloc::{AllocError, Global};
@@ -22,25 +22,14 @@ pub fn analysis_text<'a>(
     let mut text = Vec::new(alloc);
     let (mut agree, mut differ, mut open, mut gave): (u64, u64, u64, u64) = (0, 0, 0, 0);
     for row in rows {
-        let value = value_of(formula_in(row.text), &names);
-        let verdict = match value {
-            Value::Known(_) if has_given(&names, row.line) => {
-                gave = gave.saturating_add(1);
-                "gave"
-            }
-            Value::Known(_) if is_count(value, row.count) => {
-                agree = agree.saturating_add(1);
-                "ok"
-            }
-            Value::Known(_) => {
-                differ = differ.saturating_add(1);
-                "no"
-            }
-            Value::Unknown | Value::Unreadable(_) | Value::TooLarge => {
-                open = open.saturating_add(1);
-                "?"
-            }
+        let (number, verdict) = match verdict_of(&names, row) {
+            Verdict::Agrees => (&mut agree, "ok"),
+            Verdict::Differs => (&mut differ, "no"),
+            Verdict::Gave => (&mut gave, "gave"),
+            Verdict::Open => (&mut open, "?"),
         };
+        *number = number.saturating_add(1);
+        let value = value_of(formula_in(row.text), &names);
         add_row(alloc, &mut text, row, value, verdict)?;
     }
     add_names(alloc, &mut text, &names, rows)?;
@@ -116,10 +105,7 @@ fn add_names(
         if !is_read(names, row) {
             continue;
         }
-        let mut rest = formula_in(row.text);
-        for _ in 0..rest.len() {
-            let (word, after) = split_word(from_word(rest));
-            rest = after;
+        for word in formula_in(row.text).split(|byte| !byte.is_ascii_alphanumeric()) {
             if !is_name(word) || listed.iter().any(|name| is_same_name(name, word)) {
                 continue;
             }

@@ -1,61 +1,55 @@
-//! The values of names that are found from what is measured.
-ghost use Rattle.std.specs.Prelude.{◌≡◌, ℕ, ℤ, pos, IfOk, IfSome, MatchOption, None, Some};
-ghost use Rattle.mix_formula.specs.Prelude.{within, all_named, named, value_in};
-ghost use Rattle.mix_formula.specs.Found.{all_values, candidate, first_found, first_without, formula_at, found_by, from_word, is_count, is_without, names_in, part_of, solution, unless_valued};
-ghost use Rattle.mix_formula.specs.Rows.{all_rows, row_value};
+//! The values of names that are found from what is measured, and what a line then says.
+ghost use Rattle.std.specs.Prelude.{◌≡◌, ℕ, Bool, pos, true, false};
+ghost use Rattle.mix_formula.specs.Prelude.{within, all_named, has_given};
+ghost use Rattle.mix_formula.specs.Formula.{value_of};
+ghost use Rattle.mix_formula.specs.Found.{is_count, part_of};
+ghost use Rattle.mix_formula.specs.Rows.{formula_of, row_value};
 
 use crate::arithmetic::{Operator, Reckoned, outcome};
-use crate::names::{Named, Scope, value_in};
+use crate::names::{Named, Scope, has_given, is_same_name, value_in};
 use crate::rows::{Row, formula_in};
-use crate::text::{is_name, split_word};
-use crate::value::{Value, value_with};
+use crate::text::is_name;
+use crate::value::{Value, value_of, value_with};
 use std::alloc::{AllocError, Global};
 
-/// A formula and what its value should be, by the names that have one and one that has none.
+/// What a line says of its formula.
 #[derive(Clone, Copy)]
-pub(crate) struct Equation<'a> {
-    pub names: &'a [Named<'a>],
-    pub formula: &'a [u8],
-    pub name: &'a [u8],
-    pub count: u64,
+pub enum Verdict {
+    /// Its value is the count, and no name has its value from this line.
+    Agrees,
+    /// Its value is another one.
+    Differs,
+    /// Its count gave a name the value by which both are the same.
+    Gave,
+    /// It has no value.
+    Open,
 }
 
-/// A text from its first letter or digit on.
-pub(crate) fn from_word(text: &[u8]) -> &[u8]
-    ensures { result.now ≡ from_word text.now }
-{
-    let mut rest = text;
-    while let [byte, after @ ..] = rest {
-        if byte.is_ascii_alphanumeric() {
-            return rest;
-        }
-        rest = after;
-    }
-    rest
+// Whether a line may give a name its value.
+#[derive(Clone, Copy)]
+enum Turn {
+    // It is to be asked.
+    Due,
+    // It gave none: it is asked again when another of its names has a value.
+    Waits,
+    // Each of its names has a value.
+    Over,
 }
 
-// Whether a word is a name that has no value.
-fn is_without(names: &[Named], word: &[u8]) -> bool
-    ensures { result ≡ is_without (all_named names.now) word.now }
-{
-    is_name(word) && value_in(names, word).is_none()
+// A line, and whether it may give a value.
+#[derive(Clone, Copy)]
+struct Line<'a> {
+    row: Row<'a>,
+    turn: Turn,
 }
 
-// The first name of a formula that has no value.
-fn first_without<'a>(names: &[Named], formula: &'a [u8]) -> Option<&'a [u8]>
-    ensures { MatchOption result (first_without (all_named names.now) (names_in formula.now) ≡ None) (λ name. first_without (all_named names.now) (names_in formula.now) ≡ Some name.now) }
-{
-    let mut rest = formula;
-    let mut more = formula.len();
-    while more > 0 {
-        let (word, after) = split_word(from_word(rest));
-        if is_without(names, word) {
-            return Some(word);
-        }
-        rest = after;
-        more -= 1;
-    }
-    None
+// A formula and what its value should be, by the names that have one and one that has none.
+#[derive(Clone, Copy)]
+struct Equation<'a> {
+    names: &'a [Named<'a>],
+    formula: &'a [u8],
+    name: &'a [u8],
+    count: u64,
 }
 
 /// Whether a value is a count.
@@ -90,107 +84,107 @@ pub(crate) fn natural(number: u128) -> Reckoned
     }
 }
 
+/// Whether a word is the name of a formula.
+pub(crate) fn has_name(formula: &[u8], name: &[u8]) -> bool {
+    formula
+        .split(|byte| !byte.is_ascii_alphanumeric())
+        .any(|word| is_same_name(word, name))
+}
+
 impl Equation<'_> {
     // The value of the formula, if the name has this one.
-    fn at(&self, value: i64) -> Value
-        ensures { result ≡ formula_at (all_named self.now.names.now) self.now.formula.now self.now.name.now value }
-    {
-        let name = self.name;
-        let line = None;
+    fn at(&self, value: i64) -> Value {
+        let (name, line, names) = (self.name, None, self.names);
         let tried = Some(Named { name, value, line });
-        let names = self.names;
         value_with(self.formula, &Scope { names, tried })
     }
 
-    // What the name would have to be.
-    fn candidate(&self) -> Reckoned
-        ensures { result ≡ candidate (formula_at (all_named self.now.names.now) self.now.formula.now self.now.name.now) self.now.count }
-    {
+    // The value of the name by which the formula is the count, if it is (count - f(0)) / (f(1) - f(0)).
+    fn solution(&self) -> Option<i64> {
         let (at_0, at_1) = (part_of(self.at(0)), part_of(self.at(1)));
         let above = outcome(Operator::Subtract, natural(u128::from(self.count)), at_0);
-        outcome(
-            Operator::Divide,
-            above,
-            outcome(Operator::Subtract, at_1, at_0),
-        )
-    }
-
-    // The value of the name by which the formula is the count, if it is found.
-    fn solution(&self) -> Option<i64>
-        ensures { result ≡ solution (formula_at (all_named self.now.names.now) self.now.formula.now self.now.name.now) self.now.count }
-    {
-        match self.candidate() {
-            Reckoned::Known(value) => {
-                if is_count(self.at(value), self.count) {
-                    Some(value)
-                } else {
-                    None
-                }
-            }
-            Reckoned::Unknown | Reckoned::TooLarge => None,
+        let below = outcome(Operator::Subtract, at_1, at_0);
+        match outcome(Operator::Divide, above, below) {
+            Reckoned::Known(value) if is_count(self.at(value), self.count) => Some(value),
+            _ => None,
         }
     }
 }
 
-// What a line gives.
-#[tactic(auto, unfolding(crate::specs::Found::found_by))]
-fn found_by<'a>(names: &[Named], row: &Row<'a>) -> Option<Named<'a>>
-    ensures { MatchOption result (found_by (all_named names.now) (row_value row.now) ≡ None) (λ found. found_by (all_named names.now) (row_value row.now) ≡ Some (named found)) }
-{
+// What a line gives: its formula has to have one name without a value alone, since with a second one
+// it has none at 0.
+fn found_by<'a>(names: &[Named], row: &Row<'a>) -> (Turn, Option<Named<'a>>) {
     let formula = formula_in(row.text);
-    match first_without(names, formula) {
-        None => None,
-        Some(name) => {
-            let equation = Equation {
-                names,
-                formula,
-                name,
-                count: row.count,
-            };
-            match equation.solution() {
-                Some(value) => {
-                    let line = Some(row.line);
-                    Some(Named { name, value, line })
-                }
-                None => None,
-            }
+    let open = formula
+        .split(|byte| !byte.is_ascii_alphanumeric())
+        .find(|word| is_name(word) && value_in(names, word).is_none());
+    let Some(name) = open else {
+        return (Turn::Over, None);
+    };
+    let equation = Equation {
+        names,
+        formula,
+        name,
+        count: row.count,
+    };
+    match equation.solution() {
+        Some(value) => {
+            let line = Some(row.line);
+            (Turn::Over, Some(Named { name, value, line }))
         }
+        None => (Turn::Waits, None),
     }
 }
 
-// What the first line gives that gives one.
-fn first_found<'a>(names: &[Named], rows: &[Row<'a>]) -> Option<Named<'a>>
-    ensures { MatchOption result (first_found (all_named names.now) (all_rows rows.now) ≡ None) (λ found. first_found (all_named names.now) (all_rows rows.now) ≡ Some (named found)) }
-{
-    let mut rest = rows;
-    while let [row, after @ ..] = rest {
-        match found_by(names, row) {
-            Some(found) => return Some(found),
-            None => {}
-        }
-        rest = after;
-    }
-    None
-}
-
-/// The values of all names: the given ones, and those that the lines give, one after the other.
-/// Only out of memory refuses it.
+/// The values of all names: the given ones, and those that lines give: each time the first line that
+/// gives one, until none does. A line is asked again only where a name of its formula came to have a
+/// value. Only out of memory refuses it.
 pub fn all_values<'a>(
     alloc: Global,
     rows: &[Row<'a>],
     given: &[Named<'a>],
-) -> Result<Vec<Named<'a>>, AllocError>
-    ensures { IfOk result (λ names. all_named names.items ≡ all_values (all_rows rows.now) (all_named given.now)) }
-{
-    let mut names = Vec::new(alloc);
-    names.extend_from_slice(given)?;
-    let mut more = rows.len();
-    while more > 0 {
-        match first_found(&names, rows) {
-            None => return Ok(names),
-            Some(found) => names.push(found)?,
+) -> Result<Vec<Named<'a>>, AllocError> {
+    let mut names = Vec::from_slice(alloc, given)?;
+    let mut lines = Vec::new(alloc);
+    for row in rows {
+        lines.push(Line {
+            row: *row,
+            turn: Turn::Due,
+        })?;
+    }
+    let most = rows.len().saturating_mul(rows.len().saturating_add(1));
+    for _turn in 0..most {
+        let due = lines.iter().position(|line| matches!(line.turn, Turn::Due));
+        let Some(at) = due else {
+            break;
+        };
+        let (turn, found) = found_by(&names, &lines[at].row);
+        lines[at].turn = turn;
+        if let Some(found) = found {
+            names.push(found)?;
+            for line in lines.iter_mut() {
+                let formula = formula_in(line.row.text);
+                if matches!(line.turn, Turn::Waits) && has_name(formula, found.name) {
+                    line.turn = Turn::Due;
+                }
+            }
         }
-        more -= 1;
     }
     Ok(names)
+}
+
+/// What a line says of its formula, by the values of all names.
+pub fn verdict_of(names: &[Named], row: &Row) -> Verdict
+    ensures agrees { result ≡ Verdict.Agrees → is_count (value_of (all_named names.now) (formula_of (row_value row.now))) row.now.count ≡ true }
+    ensures own { result ≡ Verdict.Agrees → has_given (all_named names.now) row.now.line ≡ false }
+    ensures gave { result ≡ Verdict.Gave → is_count (value_of (all_named names.now) (formula_of (row_value row.now))) row.now.count ≡ true }
+    ensures differs { result ≡ Verdict.Differs → is_count (value_of (all_named names.now) (formula_of (row_value row.now))) row.now.count ≡ false }
+{
+    let value = value_of(formula_in(row.text), names);
+    match value {
+        Value::Known(_) if !is_count(value, row.count) => Verdict::Differs,
+        Value::Known(_) if has_given(names, row.line) => Verdict::Gave,
+        Value::Known(_) => Verdict::Agrees,
+        Value::Unknown | Value::Unreadable(_) | Value::TooLarge => Verdict::Open,
+    }
 }

@@ -13,7 +13,7 @@ mod text;
 mod value;
 
 pub use analysis::analysis_text;
-pub use found::all_values;
+pub use found::{Verdict, all_values, verdict_of};
 pub use given::given_of;
 pub use names::{Named, has_given};
 pub use rows::Row;
