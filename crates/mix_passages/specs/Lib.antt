@@ -1,4 +1,4 @@
 pub mod Assertion
 pub mod Passages
 pub mod Reading
-pub mod Table
+pub mod Rows

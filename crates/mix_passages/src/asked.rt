@@ -15,8 +15,8 @@ pub enum Item {
 /// A column, with the name at its head.
 #[derive(Drop)]
 pub struct Column {
-    pub(crate) name: Vec<u8>,
-    pub(crate) item: Item,
+    pub name: Vec<u8>,
+    pub item: Item,
 }
 
 impl Model for Column {
@@ -73,7 +73,7 @@ pub struct Assertion {
     pub(crate) left: Side,
     pub(crate) relation: Relation,
     pub(crate) right: Side,
-    pub(crate) words: Vec<u8>,
+    pub words: Vec<u8>,
 }
 
 impl Model for Assertion {
@@ -87,9 +87,9 @@ impl Model for Assertion {
 /// What is asked: the location of the line, the columns, and the assertion, if there is one.
 #[derive(Drop)]
 pub struct Passages {
-    pub(crate) place: Place,
-    pub(crate) columns: Vec<Column>,
-    pub(crate) assertion: Option<Assertion>,
+    pub place: Place,
+    pub columns: Vec<Column>,
+    pub assertion: Option<Assertion>,
 }
 
 impl Model for Passages {

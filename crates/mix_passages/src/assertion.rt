@@ -102,68 +102,7 @@ fn relation_in(word: &[u8]) -> Option<Relation>
     ))
 }
 
-// Three words, with a blank between one and the next.
-fn three_words(alloc: Global, left: &[u8], relation: &[u8], right: &[u8]) -> Result<Vec<u8>, Memory>
-    ensures { IfOk result (λ text. text.items ≡ three_words left.now relation.now right.now) }
-{
-    let mut text = Vec::new(alloc);
-    text.extend_from_slice(left)?;
-    text.extend_from_slice(b" ")?;
-    text.extend_from_slice(relation)?;
-    text.extend_from_slice(b" ")?;
-    text.extend_from_slice(right)?;
-    Ok(text)
-}
-
-fn assertion_of(
-    alloc: Global,
-    session: &Session,
-    left: &[u8],
-    relation: &[u8],
-    right: &[u8],
-) -> Result<Option<Assertion>, Memory>
-    ensures { IfOk result (λ assertion. assertion ≡ assertion_of session.now left.now relation.now right.now) }
-{
-    match side_in(session, left) {
-        None => Ok(None),
-        Some(first) => match relation_in(relation) {
-            None => Ok(None),
-            Some(between) => match side_in(session, right) {
-                None => Ok(None),
-                Some(second) => Ok(Some(Assertion {
-                    left: first,
-                    relation: between,
-                    right: second,
-                    words: three_words(alloc, left, relation, right)?,
-                })),
-            },
-        },
-    }
-}
-
-// The assertion that the words left are, after its first two.
-fn assertion_from(
-    alloc: Global,
-    session: &Session,
-    left: &[u8],
-    relation: &[u8],
-    words: &mut Words,
-) -> Result<Option<Assertion>, Memory>
-    ensures { IfOk result (λ assertion. assertion ≡ assertion_in session.now (left.now ∷ relation.now ∷ words.old)) }
-{
-    match words.next() {
-        None => Ok(None),
-        Some(right) => {
-            if words.is_end() {
-                assertion_of(alloc, session, left, relation, right)
-            } else {
-                Ok(None)
-            }
-        }
-    }
-}
-
-/// The assertion that the words left are.
+/// The assertion that the words left are: a value, a relation and a value.
 pub(crate) fn assertion_in(
     alloc: Global,
     session: &Session,
@@ -171,13 +110,32 @@ pub(crate) fn assertion_in(
 ) -> Result<Option<Assertion>, Memory>
     ensures { IfOk result (λ assertion. assertion ≡ assertion_in session.now words.old) }
 {
-    match words.next() {
-        None => Ok(None),
-        Some(left) => match words.next() {
-            None => Ok(None),
-            Some(relation) => assertion_from(alloc, session, left, relation, words),
-        },
-    }
+    let (Some(left), Some(between), Some(right), None) = (
+        words.next(),
+        words.next(),
+        words.next(),
+        words.next(),
+    ) else {
+        return Ok(None);
+    };
+    let (Some(first), Some(relation), Some(second)) = (
+        side_in(session, left),
+        relation_in(between),
+        side_in(session, right),
+    ) else {
+        return Ok(None);
+    };
+    let mut text = Vec::from_slice(alloc, left)?;
+    text.extend_from_slice(b" ")?;
+    text.extend_from_slice(between)?;
+    text.extend_from_slice(b" ")?;
+    text.extend_from_slice(right)?;
+    Ok(Some(Assertion {
+        left: first,
+        relation,
+        right: second,
+        words: text,
+    }))
 }
 
 /// Goes on to what follows `assert`, if it is one of the words.

@@ -27,20 +27,6 @@ fn next_item<'a>(words: &mut Words<'a>) -> Option<&'a [u8]>
     }
 }
 
-// Adds the column of a cell of a range.
-fn add_cell(columns: &mut Vec<Column>, place: Place) -> Result<(), Memory>
-    ensures { OnOk result (columns.new.items ≡ columns.old.items ++ cell_column place ∷ []) }
-{
-    let alloc = *columns.allocator();
-    let location = Location(place.number());
-    let name = format!(in alloc; "{location}")?;
-    columns.push(Column {
-        name: name.into_bytes(),
-        item: Item::Cell(place),
-    })?;
-    Ok(())
-}
-
 fn place_at(number: u16) -> Place
     requires { number < 4000 }
     ensures { result ≡ number }
@@ -53,9 +39,16 @@ fn add_cells(columns: &mut Vec<Column>, first: u16, count: u16) -> Result<(), Me
     requires { first + count ≤ 4000 }
     ensures { OnOk result (columns.new.items ≡ columns.old.items ++ cell_columns first count) }
 {
+    let alloc = *columns.allocator();
     let mut added = 0;
     while added < count {
-        add_cell(columns, place_at(first + added))?;
+        let place = place_at(first + added);
+        let location = Location(place.number());
+        let name = format!(in alloc; "{location}")?.into_bytes();
+        columns.push(Column {
+            name,
+            item: Item::Cell(place),
+        })?;
         added += 1;
     }
     Ok(())
@@ -73,45 +66,6 @@ fn add_between(columns: &mut Vec<Column>, first: Place, last: Place) -> Result<b
     Ok(true)
 }
 
-// Adds those of the cells that two expressions name.
-fn add_range(
-    session: &Session,
-    first: &[u8],
-    last: &[u8],
-    columns: &mut Vec<Column>,
-) -> Result<bool, Memory>
-    ensures { IfOk result (λ read. joined columns.old.items (columns_from session.now first.now last.now) ≡ (if read then Some columns.new.items else None)) }
-{
-    match cell_in(session, first) {
-        None => Ok(false),
-        Some(from) => match cell_in(session, last) {
-            None => Ok(false),
-            Some(to) => add_between(columns, from, to),
-        },
-    }
-}
-
-// Adds those of a range, where this follows its first expression.
-fn add_after(
-    session: &Session,
-    first: &[u8],
-    rest: &[u8],
-    columns: &mut Vec<Column>,
-) -> Result<bool, Memory>
-    ensures { IfOk result (λ read. joined columns.old.items (columns_after session.now first.now rest.now) ≡ (if read then Some columns.new.items else None)) }
-{
-    match rest {
-        [_, next, last @ ..] => {
-            if *next == b'.' {
-                add_range(session, first, last, columns)
-            } else {
-                Ok(false)
-            }
-        }
-        _ => Ok(false),
-    }
-}
-
 // Adds the column of a register or a cell.
 fn add_item(session: &Session, word: &[u8], columns: &mut Vec<Column>) -> Result<bool, Memory>
     ensures { IfOk result (λ read. joined columns.old.items (option_map (λ item. record { name = word.now; item = item } ∷ []) (item_in session.now word.now))
@@ -127,19 +81,40 @@ fn add_item(session: &Session, word: &[u8], columns: &mut Vec<Column>) -> Result
     }
 }
 
+// Adds those of the cells from one to another, where this follows the first expression.
+fn add_range(
+    session: &Session,
+    first: &[u8],
+    rest: &[u8],
+    columns: &mut Vec<Column>,
+) -> Result<bool, Memory>
+    ensures { IfOk result (λ read. joined columns.old.items (columns_after session.now first.now rest.now) ≡ (if read then Some columns.new.items else None)) }
+{
+    let [_, next, last @ ..] = rest else {
+        return Ok(false);
+    };
+    if *next != b'.' {
+        return Ok(false);
+    }
+    match (cell_in(session, first), cell_in(session, last)) {
+        (Some(from), Some(to)) => add_between(columns, from, to),
+        _ => Ok(false),
+    }
+}
+
 fn stop_in(word: &[u8]) -> Option<usize>
     ensures { result ≡ position (λ byte. byte == 46) word.now }
 {
     word.iter().position(|byte| *byte == b'.')
 }
 
-// Adds the columns of a word.
+// Adds the columns of a word: of a register or a cell, or of the cells from one to another.
 fn add_columns(session: &Session, word: &[u8], columns: &mut Vec<Column>) -> Result<bool, Memory>
     ensures { IfOk result (λ read. joined columns.old.items (columns_of session.now word.now) ≡ (if read then Some columns.new.items else None)) }
 {
     match stop_in(word) {
         None => add_item(session, word, columns),
-        Some(at) => add_after(session, &word[..at], &word[at..], columns),
+        Some(at) => add_range(session, &word[..at], &word[at..], columns),
     }
 }
 

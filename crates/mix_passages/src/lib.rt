@@ -6,9 +6,10 @@ mod assertion;
 mod columns;
 mod item;
 mod read;
+mod rows;
 mod table;
-mod text;
 
 pub use asked::{Assertion, Column, Item, Passages, Relation, Side};
 pub use read::read_passages;
+pub use rows::{Row, Table, rows_of};
 pub use table::passages_text;
