@@ -26,7 +26,7 @@ export class App {
   said = ["", false, "", false]; // what the status says, and whether a line says it too
 
   constructor(machine, grammar) {
-    const shown = () => ({ blocks: this.units.requests, field: this.bars.field ?? WHOLE, line: this.nodes.line });
+    const shown = () => ({ blocks: this.units.requests, field: this.bars.field ?? WHOLE, nodes: this.nodes.kept });
     const store = new Store(machine, () => this.texts, shown);
     this.store = store;
     this.predict = new Predict(store);

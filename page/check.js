@@ -70,19 +70,19 @@ export function rowsOf(units, unit) {
 }
 
 // What limits count, by their names: by labels how often their lines were executed, by cells the
-// writes. Conflicts are counted by the rows of a reply, since no request counts them.
+// writes.
 async function countsOf(session, { limits }, source, { done, clock }) {
   const cells = limitsIn(limits).filter(([, name, cell]) => name !== cell).map(([, , cell]) => cell);
   const numbers = await session.values(cells);
   const parts = numbers.map((cell) => ["mix/writes", { part: `cell ${cell}`, count: 0, total: true }]);
-  const others = [["mix/program", {}], ["mix/counts", {}], repl("show writes conflict")];
-  const [{ rows }, { cells: executed }, { result }, ...totals] = await session.bodies([...others, ...parts]);
+  const others = [["mix/program", {}], ["mix/counts", { conflicts: true }]];
+  const [{ rows }, { cells: executed, conflicts }, ...totals] = await session.bodies([...others, ...parts]);
   const times = new Map(executed.map(({ cell, count }) => [cell, count]));
   const lines = source.split("\n");
   const labelled = rows.filter(({ instruction, line }) => instruction && line);
   return new Map([
     ...labelled.map(({ cell, line }) => [labelOf(lines[line - 1]), times.get(cell) ?? "0"]),
-    ["steps", String(done)], ["clock", clock], ["conflicts", String(result.split("\n").length - 1)],
+    ["steps", String(done)], ["clock", clock], ["conflicts", String(conflicts)],
     ...cells.map((cell, at) => [`writes ${cell}`, totals[at].total?.toString()]),
   ]);
 }

@@ -8,30 +8,24 @@ import { upTo } from "./range.js";
 const MOST_NODES = 120; // that are drawn
 const REMARK = /^\*\s*nodes:\s*(from\s.*)/i; // of a source or a script
 const SIZE = /\s(\d+)\s+words\s+each/i;
-const NODE = /^node (\d+) row (\d+)(?: label ([-\d ]+?))?(?: links (.+))?$/;
 
-// Where a link leads: to a `cell`, perhaps `isBack`; what is `said` where it leads to no node.
-function targetIn(word) {
-  const [, kind, place] = /^(?:(\w+):)?(.*)$/.exec(word);
-  const isTo = kind === "back" || (!kind && place !== "nil");
-  if (isTo) return { cell: Number(place), isBack: kind === "back", said: "" };
-  return { cell: null, isBack: false, said: kind ? `${kind} ${place}` : place };
+// With what is `said` of a link that leads to no node.
+function led({ cell, inside, out, back, ...named }) {
+  const other = inside === undefined ? out && `out ${out}` : `inside ${inside}`;
+  return { ...named, cell, isBack: Boolean(back), said: cell === undefined ? other || "nil" : "" };
 }
 
-// What `show nodes` says.
-export function nodesIn(text) {
-  const lines = text.split("\n");
-  const wordsOf = (kind) => lines.filter((line) => line.startsWith(`${kind} `)).map((line) => line.split(" ").slice(1));
-  const heads = wordsOf("head").map(([name, word]) => ({ name: name.replace(/^=|=$/g, ""), ...targetIn(word) }));
-  const pointers = wordsOf("pointer").map(([name, word]) => ({ name: `r${name}`, ...targetIn(word) }));
-  const nodes = lines.map((line) => NODE.exec(line)).filter(Boolean).map(([, cell, row, label = "", links = ""]) => {
-    const [labels, words] = [label, links].map((list) => list.split(" ").filter(Boolean));
-    return { cell: Number(cell), row: Number(row), labels, links: words.map(targetIn) };
-  });
-  return { heads, pointers, nodes, unreached: Number((wordsOf("unreached")[0] || [0])[0]) };
+// The nodes that the engine tells, with the names of what leads to them.
+export function nodesIn({ heads, pointers, nodes, unreached }) {
+  return {
+    heads: heads.map(({ head, ...each }) => led({ name: head.replace(/^=|=$/g, ""), ...each })),
+    pointers: pointers.map(({ register, cell }) => led({ name: `r${register}`, cell })),
+    nodes: nodes.map((node) => ({ ...node, links: node.links.map(led) })),
+    unreached,
+  };
 }
 
-const leadsTo = ({ cell, isBack, said }) => (cell === null ? said : `${isBack ? "back to " : ""}${cell}`);
+const leadsTo = ({ cell, isBack, said }) => said || `${isBack ? "back to " : ""}${cell}`;
 
 function spokenOf({ heads, pointers, nodes }) {
   const told = nodes.map(({ cell, labels, links, isWritten }) => {
@@ -57,7 +51,6 @@ export class Nodes {
 
   // What a file keeps of it, which is what is asked for; "" if it is shut.
   get kept() { return $("nodes-box").open ? $("nodes-asked").value.trim() : ""; }
-  get line() { return this.kept && `show nodes ${this.kept}`; }
   get size() { return Number((SIZE.exec(this.kept) || [0, 1])[1]); }
 
   // Another program: what was kept, or what a remark of its source or of its script asks for.
@@ -74,13 +67,13 @@ export class Nodes {
   }
 
   show() {
-    const { store: { view }, store, line, kept, size } = this;
+    const { store: { view }, store, kept, size } = this;
     if (!view || !$("nodes-box").open) return;
-    if (line === "") this.draw([]);
-    else if (line !== view.line) store.look();
+    if (kept === "") this.draw([]);
+    else if (kept !== view.nodes) store.look();
     else if (!view.told.success) this.draw([], refusalOf(view.told));
     else {
-      const found = nodesIn(view.told.body.result);
+      const found = nodesIn(view.told.body);
       const isWritten = (cell) => upTo(cell, cell + size - 1).some((each) => view.altered.has(`cell ${each}`));
       const nodes = found.nodes.slice(0, MOST_NODES).map((node) => ({ ...node, isWritten: isWritten(node.cell) }));
       const [title, all] = [`Nodes ${kept}, after ${counted(view.state.done, "change")}`, found.nodes.length];

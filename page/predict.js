@@ -3,7 +3,7 @@
 import { $, make, on, put } from "./dom.js";
 import { heldIn } from "./memory.js";
 import { OPERATIONS, conditionOf } from "./operations.js";
-import { isCommand, isJump, itemOf, nameOf } from "./sentence.js";
+import { isCommand, itemOf, nameOf } from "./sentence.js";
 
 const CHOICES = { jump: ["yes", "no"], cmp: ["less", "equal", "greater"], over: ["on", "off"] };
 const MAY_OVERFLOW = /^(ADD|SUB|DIV|INC[AX]|DEC[AX])$/;
@@ -40,8 +40,8 @@ function numberIn(text) {
 // The number of -0 is 0, its bytes have a sign.
 export function verdictOn(guess, part, /** @type {View} */ view) {
   if (part === "jump") {
-    const jumps = isJump(view.change);
-    return { isRight: jumps === (guess === "yes"), told: `it ${jumps ? "jumps" : "does not jump"}` };
+    const { taken } = view.change;
+    return { isRight: taken === (guess === "yes"), told: `it ${taken ? "jumps" : "does not jump"}` };
   }
   const cells = part.startsWith("cell ") ? [Number(part.slice(5))] : [];
   const { word, said } = heldIn(view, cells).find((each) => each.part === part);

@@ -17,12 +17,6 @@ export function nameOf(part) {
   return flag || (/^(A|X|J|I\d)$/.test(part) ? `r${part}` : part);
 }
 
-// Whether a conditional jump was taken. If it leads to the next location, and rJ held that already,
-// the machine does not show it.
-export function isJump(/** @type {Change} */ change) {
-  return change.locationAfter !== change.location + 1 || Boolean(itemOf(change, "J"));
-}
-
 // A word in a sentence: its number if that is small, else its letters, or its sign and bytes.
 export function toldWord(word, number) {
   if (number !== undefined && Math.abs(Number(number)) < LARGE) return number;
@@ -107,16 +101,14 @@ function nextOf(/** @type {View} */ view, /** @type {Listing} */ listing) {
 
 // Of a view as it is after the change.
 function didOf(/** @type {Change} */ change, /** @type {View} */ view, listing) {
-  const { location, text, time } = change;
+  const { text, time } = change;
   const { state } = view;
   const none = "nothing is altered";
   if (isCommand(change)) return [text, listed(alterationsOf(change, view), MOST_PARTS) || none];
-  const { operation, address } = change.instruction;
+  const { operation } = change.instruction;
   const [row, did] = [OPERATIONS.get(operation), alterationsOf(change, view, operation)];
   if (row.uses === "jump") {
-    const isTaken = ["JMP", "JSJ"].includes(operation) || isJump(change);
-    const [isUnseen, at] = [!isTaken && address === String(location + 1), whereIs(state.location, listing)];
-    did.unshift(isTaken ? `jumps to ${at}` : isUnseen ? `goes on at ${at}` : "does not jump");
+    did.unshift(change.taken ? `jumps to ${whereIs(state.location, listing)}` : "does not jump");
   }
   if (did.length === 0 && row.name.startsWith("CMP")) did.push(`the comparison stays ${COMPARED[state.cmp]}`);
   if (operation === "HLT") did.push("halts");

@@ -27,7 +27,7 @@ function loggedOf(command, answer) {
 
 export class Session {
   // `shown` gives the requests for blocks of tapes and disks, the field of cells that is shown, and
-  // perhaps a line that asks for what is drawn of a moment.
+  // perhaps the words that ask for nodes.
   constructor(machine, texts, shown) {
     this.machine = machine;
     this.texts = texts;
@@ -67,9 +67,9 @@ export class Session {
   }
 
   async see(commands, at = this.done) {
-    const { blocks, field, line = "" } = this.shown();
+    const { blocks, field, nodes = "" } = this.shown();
     const all = ["mix/state", { cells: [], nonzero: true, instructions: true, field }];
-    const asked = [...commands.map(repl), all, ["mix/units", {}], ...blocks, ...(line ? [repl(line)] : [])];
+    const asked = [...commands.map(repl), all, ["mix/units", {}], ...blocks, ...(nodes ? [["mix/nodes", { of: nodes }]] : [])];
     const answers = await this.ask(asked, at);
     const [state, units, ...found] = answers.slice(commands.length).map(({ body }) => body);
     this.at = state.done;
@@ -85,7 +85,7 @@ export class Session {
     const view = {
       state, units: units.units, blocks: new Map(held), wordIn: (cell) => cells.get(cell) || ZERO,
       altered: new Set(state.altered), lastCell: isSlid ? undefined : await this.lastCell(state.done, at), field,
-      line, told: line ? answers[answers.length - 1] : null,
+      nodes, told: nodes ? answers[answers.length - 1] : null,
       ...(await this.momentOf(state, field)),
     };
     return { answers, logged, view };
@@ -196,8 +196,8 @@ export class Session {
     return moments.map((_, index) => found[2 * index + 1].cells.map(({ value }) => Number(value)));
   }
 
-  // The answer to a line that asks something of all changes.
-  async told(line) { return (await this.ask([repl(line)], this.total))[0]; }
+  // The answer to a request that asks something of all changes.
+  async told(request) { return (await this.ask([request], this.total))[0]; }
 
   async altersOf(cells) {
     const asked = cells.map((cell) => ["mix/writes", { part: `cell ${cell}`, count: 0, total: true }]);

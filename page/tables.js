@@ -7,7 +7,6 @@ import { Picture } from "./pictures.js";
 
 const [HOLDS, FAILS] = [["✓ ", "holds"], ["✗ ", "fails"]];
 const VERDICTS = { ok: HOLDS, true: HOLDS, no: FAILS, false: FAILS };
-const FORMULA = /^ *(\d+) +(\S+)  (ok|no|gave|\?) +(\d+)  (.*)$/; // count, value, verdict, line, its text
 
 export function csvOf(rows) {
   const spelled = (text) => (/^(?!-\d+$)[=+@\t\r-]/.test(text) ? `'${text}` : text); // no formula of a spreadsheet
@@ -15,26 +14,19 @@ export function csvOf(rows) {
   return rows.map((row) => `${row.map(spelled).map(quoted).join(",")}\n`).join("");
 }
 
-// What `show analysis` says: a row for each line that has a formula, and what is behind them.
-export function analysisIn(text) {
-  const lines = text.split("\n");
-  const rows = lines.map((line) => FORMULA.exec(line)).filter(Boolean).map(([, count, value, is, line, source]) => {
-    return [line, source.split("[").slice(1).join("[").split("]")[0], value, count, is];
-  });
-  const more = lines.filter((line) => line !== "" && !FORMULA.test(line)).join("\n");
-  return { heads: ["line", "formula", "value", "count", "equal"], rows, more };
+// What the engine tells of formulas: a row for each line that has one, and what is said beside them.
+export function analysisIn({ lines, text }) {
+  const rows = lines.map(({ line, formula, value, count, verdict }) => [String(line), formula, value, count, verdict]);
+  return { heads: ["line", "formula", "value", "count", "equal"], rows, more: text.trimEnd() };
 }
 
-// What `show passages` says: a row for each passage, whose last word is of the assertion, if there
-// is one.
-export function passagesIn(text, isAsserted) {
-  const lines = text.split("\n").filter(Boolean);
-  const [head = [], ...rows] = lines.filter((line) => !line.startsWith("..")).map((line) => line.trim().split(/ +/));
-  const heads = isAsserted ? [...head.slice(0, -3), head.slice(-3).join(" ")] : head;
-  return { heads, rows, more: lines.filter((line) => line.startsWith("..")).join("\n") };
+// And of passages: a row for each, whose last word is of the assertion, if there is one.
+export function passagesIn({ columns, assertion, rows, before }) {
+  const told = rows.map(({ state, numbers, holds }) => [state, ...numbers, ...(assertion ? [holds] : [])].map(String));
+  return { heads: ["state", ...columns, assertion].filter(Boolean), rows: told, more: before ? `.. and ${before} before` : "" };
 }
 
-// The answer to a line that asks, which a field completes. A click on a row chooses its first number.
+// The answer to a request, whose words a field completes. A click on a row chooses its first number.
 class Table extends Picture {
   constructor(/** @type {Store} */ store, /** @type {Listing} */ listing) {
     super(store);
@@ -65,11 +57,11 @@ class Table extends Picture {
 
   show() { this.look(this.asked); }
   choose(_) {}
-  read(_) { return { heads: [], rows: [], more: "" }; }
+  read(_) { return {}; }
 
   async find(session) {
-    const answer = await session.told(`show ${this.name} ${this.of}`.trim());
-    const read = this.read(answer.success ? answer.body.result : "");
+    const answer = await session.told([`mix/${this.name}`, { of: this.of }]);
+    const read = answer.success ? this.read(answer.body) : { heads: [], rows: [] };
     return { ...read, total: session.total, refusal: refusalOf(answer) };
   }
 
@@ -95,14 +87,14 @@ class Table extends Picture {
 
 export class Analysis extends Table {
   get name() { return "analysis"; }
-  read(text) { return analysisIn(text); }
+  read(body) { return analysisIn(body); }
   choose(line) { this.listing.source.goTo(line); }
 }
 
 export class Passages extends Table {
   get name() { return "passages"; }
   get isMoment() { return true; }
-  read(text) { return passagesIn(text, /\sassert\s/i.test(this.of)); }
+  read(body) { return passagesIn(body); }
   choose(moment) { this.store.slide(moment); }
 
   // At first the passages of the line of the cursor, with the registers that the program loads.

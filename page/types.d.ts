@@ -18,7 +18,7 @@ interface State {
   registers: Register[]; cells: Cell[]; altered: string[];
 }
 interface Item { part: string; what?: string; before: string; after: string; beforeValue?: string; afterValue?: string; block?: number }
-interface Change { number: number; location: number; locationAfter: number; text: string; time: string; items: Item[]; instruction?: Instruction }
+interface Change { number: number; location: number; locationAfter: number; text: string; time: string; items: Item[]; instruction?: Instruction; taken?: boolean }
 interface Next extends Partial<Change> { exceptionId?: string; description?: string } // no items where it would be a fault
 interface Unit {
   unit: number; kind: string; place: number; blocks: number; delay: string; until: string;
@@ -40,8 +40,8 @@ interface View {
   change: Change | null; // the last one that is done
   next: any; // the change that a step would be, or the fault that it would meet
   field: number; // of which cells and their changes have the numbers too
-  line: string; // that asks for what is drawn of this moment, if there is one
-  told: Answer; // the answer to it
+  nodes: string; // the words that ask for them
+  told: Answer; // the answer to these, if there are some
   inField: { change: Change | null; next: any }; // both with the numbers of that field
   times: Uint32Array; // how often cells were executed
   units: Unit[];

@@ -206,7 +206,7 @@ for (const ahead of [0, 4000]) {
     sent.push(...requests);
     return Object.assign(client, { holder }) && requests.map(() => ({ success: true, body: { ...body, writes: [...many] }, stopped: { reason: "exception" } }));
   } };
-  const asks = new Session(client, { source: " END 0\n", deck: "", cards: "A" }, () => ({ blocks: [["mix/units", { unit: 8, block: 0 }]], field: 13, line: "show nodes from 0 to 9, 1 words each, links 0(4:5)" }));
+  const asks = new Session(client, { source: " END 0\n", deck: "", cards: "A" }, () => ({ blocks: [["mix/units", { unit: 8, block: 0 }]], field: 13, nodes: "from 0 to 9, 1 words each, links 0(4:5)" }));
   await asks.begin();
   await asks.act(["run 5"], { met: 3 });
   await asks.slide(7);
@@ -214,12 +214,12 @@ for (const ahead of [0, 4000]) {
   await asks.values(["TABLE+1"]);
   await asks.cellsAt([1, 2], [10, 11], 5);
   await mapWith(asks, "A", await asks.look());
-  await asks.told("show analysis");
+  for (const name of ["analysis", "passages"]) await asks.told([`mix/${name}`, { of: "N=3" }]);
   await asks.altersOf([100]);
   await asks.writesOf("cell 100");
 }
 for (const name of new Set(sent.map(([each]) => each))) row(`requests: ${name} has the arguments that it takes`, sent.filter(([each]) => each === name).map(wrongIn).filter(({ length }) => length > 0), []);
-row("requests: those that look", [...new Set(sent.map(([name]) => name).filter((name) => name.startsWith("mix/")))].sort(), ["change", "check", "next", "path", "program", "state", "units", "writes"].map((name) => `mix/${name}`));
+row("requests: those that look", [...new Set(sent.map(([name]) => name).filter((name) => name.startsWith("mix/")))].sort(), ["analysis", "change", "check", "next", "nodes", "passages", "path", "program", "state", "units", "writes"].map((name) => `mix/${name}`));
 
 // The pictures, with elements that hold what they are given.
 const element = (name) => ({ name, given: {}, inside: [], setAttribute(key, value) { this.given[key] = value; }, append(...more) { this.inside.push(...more); } });

@@ -5,31 +5,22 @@ import { darksOf } from "../../page/pictures.js";
 import { mapOf } from "../../page/svg.js";
 import { analysisIn, csvOf, passagesIn } from "../../page/tables.js";
 
-const LINKED = `head =ROOT= 1000
-head LIST(0:5) nil
-head Q inside:1001
-pointer I1 1004
-node 1000 row 0 label -5 7 links 1002 1004
-node 1002 row 1 label 0 -0 links nil back:1000
-node 1004 row 1 label 3 2 links out:-7 inside:1003
-unreached 1
-`;
-const RING = "node 0001 row 0 links 0003\nnode 0003 row 1 links 0005\nnode 0005 row 2 links back:0001\n";
-const ANALYSIS = `         9           9  ok      21  LEFT    LD2  TREE,1(1:2)  [N] as [far] as
-         6           8  no      31          J1P  VISIT        [N-B]
-         1           ?  ?       32          HLT  0            [Q]
-         1      unread  ?       33          HLT  0            [(]
-         1           1  gave    34          HLT  0            [B]
-? line 33 column 32: the formula cannot be read
-names N=9 B=1 Q=?
-time 2(N) = 18 = 18
-lines 1 ok, 1 not
-`;
-const PASSAGES = `  state            A        KEY+1  A < 0
-      3           -5           -0  true
-     10  -1073741823            7  false
-.. and 17 before
-`;
+const to = (cell, back = false) => ({ cell, back });
+const LINKED = {
+  heads: [{ head: "=ROOT=", cell: 1000 }, { head: "LIST(0:5)" }, { head: "Q", inside: 0 }],
+  pointers: [{ register: "I1", cell: 1004 }],
+  nodes: [
+    { cell: 1000, row: 0, labels: ["-5", "7"], links: [to(1002), to(1004)] }, { cell: 1002, row: 1, labels: ["0", "-0"], links: [{ back: false }, to(1000, true)] },
+    { cell: 1004, row: 1, labels: ["3", "2"], links: [{ out: "-7", back: false }, { inside: 1003, back: false }] },
+  ],
+  unreached: 1,
+};
+const RING = { heads: [], pointers: [], unreached: 0, nodes: [[1, to(3)], [3, to(5)], [5, to(1, true)]].map(([cell, link], row) => ({ cell, row, labels: [], links: [link] })) };
+const ANALYSIS = {
+  lines: [{ line: 21, formula: "N", value: "9", count: "9", verdict: "ok" }, { line: 33, formula: "(", value: "unread", count: "1", verdict: "?" }],
+  names: [{ name: "N", value: "9" }], text: "? line 33 column 32: the formula cannot be read\nnames N=9\ntime 2(N) = 18 = 18\nlines 1 ok, 0 no, 1 ?\n",
+};
+const PASSAGES = { columns: ["A", "KEY+1"], assertion: "A < 0", rows: [{ state: 3, numbers: ["-5", "-0"], holds: true }, { state: 10, numbers: ["-1073741823", "7"], holds: false }], before: 17 };
 
 // `row` compares what is found with what is wanted; `within` finds the shapes of a name.
 export function tellings(row, within) {
@@ -44,13 +35,12 @@ export function tellings(row, within) {
 
   const linked = nodesIn(LINKED);
   const at = (cell, isBack = false) => ({ cell, isBack, said: "" });
-  const none = (said) => ({ cell: null, isBack: false, said });
-  row("nodes: heads and pointers", [linked.heads, linked.pointers, linked.unreached], [[{ name: "ROOT", ...at(1000) }, { name: "LIST(0:5)", ...none("nil") }, { name: "Q", ...none("inside 1001") }], [{ name: "rI1", ...at(1004) }], 1]);
+  const none = (said) => ({ cell: undefined, isBack: false, said });
+  row("nodes: heads and pointers", [linked.heads, linked.pointers, linked.unreached], [[{ name: "ROOT", ...at(1000) }, { name: "LIST(0:5)", ...none("nil") }, { name: "Q", ...none("inside 0") }], [{ name: "rI1", ...at(1004) }], 1]);
   row("nodes: labels and links", linked.nodes, [
     { cell: 1000, row: 0, labels: ["-5", "7"], links: [at(1002), at(1004)] }, { cell: 1002, row: 1, labels: ["0", "-0"], links: [none("nil"), at(1000, true)] },
     { cell: 1004, row: 1, labels: ["3", "2"], links: [none("out -7"), none("inside 1003")] },
   ]);
-  row("nodes: without labels, without links", nodesIn("node 0007 row 0 links nil\nnode 0009 row 0 label 5\n").nodes.map(({ labels, links }) => [labels.length, links.length]), [[0, 1], [1, 0]]);
   const graph = nodesOf({ title: "", text: "", ...linked, nodes: linked.nodes.map((node) => ({ ...node, isWritten: node.cell === 1002 })) });
   const boxesOf = (picture) => picture.inside.filter(({ name }) => name === "g").map(({ inside: [{ given }] }) => given);
   const boxes = boxesOf(graph).map(({ x, y, width, class: kind }) => ({ middle: x + width / 2, y, kind }));
@@ -64,10 +54,10 @@ export function tellings(row, within) {
   row("nodes: a list goes to the right", [ring[0].x < ring[1].x && ring[1].x < ring[2].x, new Set(ring.map(({ y }) => y)).size], [true, 1]);
 
   const analysis = analysisIn(ANALYSIS);
-  row("analysis: a row for each formula", analysis.rows, [["21", "N", "9", "9", "ok"], ["31", "N-B", "8", "6", "no"], ["32", "Q", "?", "1", "?"], ["33", "(", "unread", "1", "?"], ["34", "B", "1", "1", "gave"]]);
-  row("analysis: what is behind them", analysis.more, ANALYSIS.split("\n").slice(5, -1).join("\n"));
-  row("passages: a row for each", passagesIn(PASSAGES, true), { heads: ["state", "A", "KEY+1", "A < 0"], rows: [["3", "-5", "-0", "true"], ["10", "-1073741823", "7", "false"]], more: ".. and 17 before" });
-  row("passages: none", passagesIn("  state            A\n", false), { heads: ["state", "A"], rows: [], more: "" });
+  row("analysis: a row for each formula", analysis.rows, [["21", "N", "9", "9", "ok"], ["33", "(", "unread", "1", "?"]]);
+  row("analysis: what is behind them", analysis.more, "? line 33 column 32: the formula cannot be read\nnames N=9\ntime 2(N) = 18 = 18\nlines 1 ok, 0 no, 1 ?");
+  row("passages: a row for each", passagesIn(PASSAGES), { heads: ["state", "A", "KEY+1", "A < 0"], rows: [["3", "-5", "-0", "true"], ["10", "-1073741823", "7", "false"]], more: ".. and 17 before" });
+  row("passages: none", passagesIn({ columns: ["A"], rows: [], before: 0 }), { heads: ["state", "A"], rows: [], more: "" });
   row("a table as CSV", csvOf([["a", "1,5"], ['x"', "y"]]), 'a,"1,5"\n"x""",y\n');
   row("a table as CSV: no cell is a formula", csvOf([["-12", "-1+2", "N-1"], ["=A1", "+1", "@A"], ["\t=1", "\r=1", '=H("x")']]), "-12,'-1+2,N-1\n'=A1,'+1,'@A\n'\t=1,'\r=1,\"'=H(\"\"x\"\")\"\n");
 }

@@ -60,6 +60,9 @@ requests =
     (codes "mix/change", kind.Look look.Change) ∷
     (codes "mix/next", kind.Look look.Next) ∷
     (codes "mix/writes", kind.Look look.Writes) ∷
+    (codes "mix/nodes", kind.Look look.Nodes) ∷
+    (codes "mix/passages", kind.Look look.Passages) ∷
+    (codes "mix/analysis", kind.Look look.Analysis) ∷
     (codes "mix/check", kind.Given given.Check) ∷
     (codes "mix/bundle", kind.Given given.Bundle) ∷ []
 

@@ -81,6 +81,12 @@ pub enum Look {
     Next,
     /// The changes that altered a part.
     Writes,
+    /// Linked nodes.
+    Nodes,
+    /// The states in which the machine is at a line.
+    Passages,
+    /// The counts of the book beside those that are measured.
+    Analysis,
 }
 
 /// What breakpoints are set on.
@@ -172,6 +178,9 @@ fn requests() -> &'static [(&'static str, Kind)]
         ("mix/change", Kind::Look(Look::Change)),
         ("mix/next", Kind::Look(Look::Next)),
         ("mix/writes", Kind::Look(Look::Writes)),
+        ("mix/nodes", Kind::Look(Look::Nodes)),
+        ("mix/passages", Kind::Look(Look::Passages)),
+        ("mix/analysis", Kind::Look(Look::Analysis)),
         ("mix/check", Kind::Given(Given::Check)),
         ("mix/bundle", Kind::Given(Given::Bundle)),
     ]

@@ -7,6 +7,6 @@ mod view;
 
 pub use variables::{row_text, unit_at, variables_view};
 pub use view::{
-    change_view, counts_view, given_view, next_view, path_view, program_view, state_view,
-    units_view, writes_view,
+    analysis_view, change_view, counts_view, given_view, next_view, nodes_view, passages_view,
+    path_view, program_view, state_view, units_view, writes_view,
 };

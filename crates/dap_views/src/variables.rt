@@ -20,11 +20,7 @@ pub fn variables_view(
     world: &World,
     request: &Request,
 ) -> Result<Value, Refused<Fault>> {
-    let scope = match request.number("variablesReference") {
-        Some(reference) => scope_of(reference),
-        None => None,
-    };
-    let Some(scope) = scope else {
+    let Some(scope) = request.number("variablesReference").and_then(scope_of) else {
         return Err(Refused::Fault(Fault::NoSuchThing));
     };
     let list = asked_of(variables_in(alloc, world, scope)?, request);
@@ -44,22 +40,16 @@ fn variables_in(alloc: Global, world: &World, scope: Scope) -> Result<Vec<Value>
 
 // What is asked of a list: the variables from `start` on, and at most `count` where that is given.
 fn asked_of(list: Vec<Value>, request: &Request) -> Vec<Value> {
-    let mut list = from(list, request.number("start").unwrap_or(0));
-    match request.number("count") {
-        Some(count) if count > 0 => list.truncate(count as usize),
-        _ => {}
-    }
-    list
-}
-
-// The variables from one on.
-fn from(list: Vec<Value>, start: u64) -> Vec<Value> {
     let mut list = list;
-    for _ in 0..start {
+    for _ in 0..request.number("start").unwrap_or(0) {
         if list.is_empty() {
             return list;
         }
         list.remove(0);
+    }
+    match request.number("count") {
+        Some(count) if count > 0 => list.truncate(count as usize),
+        _ => {}
     }
     list
 }

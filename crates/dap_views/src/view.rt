@@ -1,5 +1,6 @@
 //! Views: what a page shows of the program, the machine and its changes, as values. They only look.
 
+mod analysis;
 mod asked;
 mod bundle;
 mod change;
@@ -8,6 +9,8 @@ mod counts;
 mod decoded;
 mod done;
 mod next;
+mod nodes;
+mod passages;
 mod path;
 mod program;
 mod state;
@@ -16,6 +19,7 @@ mod writes;
 
 use crate::view::bundle::bundle_view;
 use crate::view::check::check_view;
+pub use analysis::analysis_view;
 pub use change::change_view;
 pub use counts::counts_view;
 use dap_asked::{Fault, Given};
@@ -24,6 +28,8 @@ use mix_refused::{Memory, Refused};
 use mix_session::{Altered, Letters, ShortLetters};
 use mix_word::{Number, Short};
 pub use next::next_view;
+pub use nodes::nodes_view;
+pub use passages::passages_view;
 pub use path::path_view;
 pub use program::program_view;
 use rpc_message::{Fields, Request};
@@ -94,9 +100,13 @@ fn word_shown(alloc: Global, word: Word) -> Result<Value, Memory> {
 
 // The number of a word, with its sign: that of -0 too.
 fn put_number(alloc: Global, fields: &mut Fields, name: &str, word: Word) -> Result<(), Memory> {
+    fields.put(name, number_shown(alloc, word)?)
+}
+
+fn number_shown(alloc: Global, word: Word) -> Result<Value, Memory> {
     let number = Number(word);
     let number = format!(in alloc; "{number}")?;
-    fields.text(name, number.as_str())
+    Ok(Value::try_from_str(alloc, number.as_str())?)
 }
 
 // The name of a part of the machine, as after `until` in a command.

@@ -2,6 +2,7 @@ pub mod Arithmetic
 pub mod Formula
 pub mod Found
 pub mod Given
+pub mod Judged
 pub mod Names
 pub mod Prelude
 pub mod Rows

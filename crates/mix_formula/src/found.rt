@@ -1,29 +1,14 @@
-//! The values of names that are found from what is measured, and what a line then says.
-ghost use Rattle.std.specs.Prelude.{◌≡◌, ℕ, Bool, pos, true, false};
-ghost use Rattle.mix_formula.specs.Prelude.{within, all_named, has_given};
-ghost use Rattle.mix_formula.specs.Formula.{value_of};
+//! The values of names that are found from what is measured.
+ghost use Rattle.std.specs.Prelude.{◌≡◌, pos};
+ghost use Rattle.mix_formula.specs.Prelude.{within};
 ghost use Rattle.mix_formula.specs.Found.{is_count, part_of};
-ghost use Rattle.mix_formula.specs.Rows.{formula_of, row_value};
 
 use crate::arithmetic::{Operator, Reckoned, outcome};
-use crate::names::{Named, Scope, has_given, is_same_name, value_in};
+use crate::names::{Named, Scope, is_same_name, value_in};
 use crate::rows::{Row, formula_in};
 use crate::text::is_name;
-use crate::value::{Value, value_of, value_with};
+use crate::value::{Value, value_with};
 use std::alloc::{AllocError, Global};
-
-/// What a line says of its formula.
-#[derive(Clone, Copy)]
-pub enum Verdict {
-    /// Its value is the count, and no name has its value from this line.
-    Agrees,
-    /// Its value is another one.
-    Differs,
-    /// Its count gave a name the value by which both are the same.
-    Gave,
-    /// It has no value.
-    Open,
-}
 
 // Whether a line may give a name its value.
 #[derive(Clone, Copy)]
@@ -171,20 +156,4 @@ pub fn all_values<'a>(
         }
     }
     Ok(names)
-}
-
-/// What a line says of its formula, by the values of all names.
-pub fn verdict_of(names: &[Named], row: &Row) -> Verdict
-    ensures agrees { result ≡ Verdict.Agrees → is_count (value_of (all_named names.now) (formula_of (row_value row.now))) row.now.count ≡ true }
-    ensures own { result ≡ Verdict.Agrees → has_given (all_named names.now) row.now.line ≡ false }
-    ensures gave { result ≡ Verdict.Gave → is_count (value_of (all_named names.now) (formula_of (row_value row.now))) row.now.count ≡ true }
-    ensures differs { result ≡ Verdict.Differs → is_count (value_of (all_named names.now) (formula_of (row_value row.now))) row.now.count ≡ false }
-{
-    let value = value_of(formula_in(row.text), names);
-    match value {
-        Value::Known(_) if !is_count(value, row.count) => Verdict::Differs,
-        Value::Known(_) if has_given(names, row.line) => Verdict::Gave,
-        Value::Known(_) => Verdict::Agrees,
-        Value::Unknown | Value::Unreadable(_) | Value::TooLarge => Verdict::Open,
-    }
 }

@@ -9,13 +9,15 @@ mod found;
 mod given;
 mod names;
 mod rows;
+mod said;
 mod text;
 mod value;
 
-pub use analysis::analysis_text;
-pub use found::{Verdict, all_values, verdict_of};
+pub use analysis::{Analysis, Judged, Verdict, analysis_of};
+pub use found::all_values;
 pub use given::given_of;
 pub use names::{Named, has_given};
 pub use rows::Row;
+pub use said::{analysis_text, beside_text, value_text};
 pub use text::bracket_of;
 pub use value::{Value, value_of};

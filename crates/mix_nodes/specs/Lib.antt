@@ -1,3 +1,4 @@
+pub mod Graph
 pub mod Nodes
 pub mod Read
 pub mod Rows

@@ -3,6 +3,7 @@
 #![tactic(auto)]
 
 mod field;
+mod graph;
 mod item;
 mod place;
 mod read;
@@ -11,7 +12,8 @@ mod shape;
 mod text;
 mod words;
 
+pub use graph::{Graph, Link, Node, graph_of};
 pub use read::read_shape;
 pub use rows::rows_of;
-pub use shape::{FieldAt, Head, HeadLink, Shape};
+pub use shape::{FieldAt, Head, HeadLink, Shape, Target};
 pub use text::nodes_text;

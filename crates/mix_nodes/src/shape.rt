@@ -64,7 +64,7 @@ impl<'a> Model for Shape<'a> {
 
 /// Where a link leads.
 #[derive(Clone, Copy)]
-pub(crate) enum Target {
+pub enum Target {
     /// Nowhere, being 0.
     Nil,
     /// To a node: its number, from 0 on, and the cell of its first word.

@@ -7,10 +7,14 @@ use Rattle.mix_passages.specs.Reading.{passages_in}
 use Rattle.mix_session.specs.Prelude.{names_of, SessionState, world_of}
 use Rattle.mix_views.specs.Analysis.{given_in}
 
--- whether words after `show` and one of these names stand for a view; in those of nodes the asterisk is the location. Other names are those of commands
+-- whether words ask for nodes; the asterisk in them is the location
+abbrev pub is_nodes : SessionState → List (List ℕ) → Bool
+is_nodes s words = is_some (shape_of (names_of s.program) (plus (world_of s.timeline).loc) words)
+
+-- whether words after `show` and one of these names stand for a view. Other names are those of commands
 abbrev pub is_view_named : SessionState → List ℕ → List (List ℕ) → Bool
 is_view_named s name words =
-    if str_eq_ignore_ascii_case name (codes "nodes") then is_some (shape_of (names_of s.program) (plus (world_of s.timeline).loc) words)
+    if str_eq_ignore_ascii_case name (codes "nodes") then is_nodes s words
     else if str_eq_ignore_ascii_case name (codes "passages") then is_some (passages_in s words)
     else if str_eq_ignore_ascii_case name (codes "analysis") then is_some (given_in words)
     else str_eq_ignore_ascii_case name (codes "map") && length words == 0

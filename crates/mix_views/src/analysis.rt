@@ -6,7 +6,7 @@ ghost use Rattle.mixal_asm.specs.Prelude.{source_value, source_at};
 ghost use Rattle.mix_session.specs.Tally.{tally_in};
 ghost use Rattle.mix_views.specs.Analysis.{given_in, given_onto, row_at, row_if, row_of, rows_below, rows_in};
 
-use mix_formula::{Named, Row, analysis_text, bracket_of, given_of};
+use mix_formula::{Analysis, Named, Row, analysis_of, bracket_of, given_of};
 use mix_lines::Words;
 use mix_machine::Place;
 use mix_refused::Memory;
@@ -15,12 +15,13 @@ use mix_word::CELLS;
 use mixal_asm::{Program, Source};
 use std::alloc::Global;
 
-/// The analysis of the changes done, by the values of names that are given in some words; none where a word gives none.
-pub(crate) fn analysis_view(
+/// The analysis of the changes done, by the values of names that are given in some words (1.3.2); none where a word gives none. Only out of memory refuses
+/// it.
+pub fn analysis_asked<'a>(
     alloc: Global,
-    session: &Session,
-    words: &mut Words,
-) -> Result<Option<Vec<u8>>, Memory>
+    session: &'a Session,
+    words: &mut Words<'a>,
+) -> Result<Option<Analysis<'a>>, Memory>
     ensures { IfOk result (λ said. is_some said ≡ is_some (given_in words.old)) }
 {
     let mut given = Vec::new(alloc);
@@ -28,8 +29,7 @@ pub(crate) fn analysis_view(
         return Ok(None);
     }
     let rows = rows_in(alloc, session)?;
-    let text = analysis_text(alloc, &rows, &given)?;
-    Ok(Some(text))
+    Ok(Some(analysis_of(alloc, &rows, &given)?))
 }
 
 // The values that words give, each one as NAME=VALUE; whether each does.

@@ -6,14 +6,14 @@ mod map;
 
 ghost use Rattle.std.specs.Prelude.{◌≡◌, IfOk, is_some};
 ghost use Rattle.mix_lines.specs.Lines.{words};
-ghost use Rattle.mix_views.specs.View.{is_view, is_view_named};
+ghost use Rattle.mix_views.specs.View.{is_nodes, is_view, is_view_named};
 
-use crate::analysis::analysis_view;
 use crate::map::map_text;
-pub use analysis::rows_in;
+pub use analysis::{analysis_asked, rows_in};
+use mix_formula::analysis_text;
 use mix_lines::{Words, next_word};
 use mix_machine::{Sign, Word};
-use mix_nodes::{nodes_text, read_shape};
+use mix_nodes::{Graph, graph_of, nodes_text, read_shape};
 use mix_passages::{passages_text, read_passages};
 use mix_refused::Memory;
 use mix_session::Session;
@@ -48,11 +48,9 @@ fn view_named(
 {
     let mut words = Words::of(rest);
     if name.eq_ignore_ascii_case(b"nodes") {
-        let world = session.world();
-        let here = Word::of(Sign::Plus, u32::from(world.loc()));
-        match read_shape(alloc, &mut words, session.program(), here)? {
+        match nodes_asked(alloc, session, &mut words)? {
             None => Ok(None),
-            Some(shape) => Ok(Some(nodes_text(alloc, world, &shape)?)),
+            Some(graph) => Ok(Some(nodes_text(alloc, &graph)?)),
         }
     } else if name.eq_ignore_ascii_case(b"passages") {
         match read_passages(alloc, session, rest)? {
@@ -60,10 +58,29 @@ fn view_named(
             Some(asked) => Ok(Some(passages_text(alloc, session, &asked)?)),
         }
     } else if name.eq_ignore_ascii_case(b"analysis") {
-        analysis_view(alloc, session, &mut words)
+        match analysis_asked(alloc, session, &mut words)? {
+            None => Ok(None),
+            Some(analysis) => Ok(Some(analysis_text(alloc, &analysis)?)),
+        }
     } else if name.eq_ignore_ascii_case(b"map") && words.is_end() {
         Ok(Some(map_text(alloc, session)?))
     } else {
         Ok(None)
+    }
+}
+
+/// The nodes that some words ask for (2.2.3); none where these say nothing. Only out of memory refuses it.
+pub fn nodes_asked<'a>(
+    alloc: Global,
+    session: &Session,
+    words: &mut Words<'a>,
+) -> Result<Option<Graph<'a>>, Memory>
+    ensures { IfOk result (λ said. is_some said ≡ is_nodes session.now words.old) }
+{
+    let world = session.world();
+    let here = Word::of(Sign::Plus, u32::from(world.loc()));
+    match read_shape(alloc, words, session.program(), here)? {
+        None => Ok(None),
+        Some(shape) => Ok(Some(graph_of(alloc, world, &shape)?)),
     }
 }

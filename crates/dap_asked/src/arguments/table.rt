@@ -44,6 +44,9 @@ pub(crate) fn arguments_of(kind: Kind) -> &'static [Argument]
         Kind::Look(Look::Change) => &[One(Needs(Name::Number, ANY)), One(May(Name::Field, FIELD)), One(May(Name::Conflict, Form::Flag))],
         Kind::Look(Look::Next) => &[One(May(Name::Field, FIELD))],
         Kind::Look(Look::Writes) => &[One(Needs(Name::Part, Form::Text)), One(May(Name::Count, Form::Natural(1_000))), One(May(Name::Until, ANY)), One(May(Name::Total, Form::Flag))],
+        Kind::Look(Look::Counts) => &[One(May(Name::Conflicts, Form::Flag))],
+        Kind::Look(Look::Nodes) | Kind::Look(Look::Passages) => &[One(Needs(Name::Of, Form::Text))],
+        Kind::Look(Look::Analysis) => &[One(May(Name::Of, Form::Text))],
         Kind::Act(Act::Goto) => &[One(Needs(Name::TargetId, ANY))],
         Kind::Act(Act::SetVariable) => &[One(Needs(Name::VariablesReference, ANY)), One(Needs(Name::Name, Form::Text)), One(Needs(Name::Value, Form::Text))],
         Kind::Act(Act::SetExpression) => &[One(Needs(Name::Expression, Form::Text)), One(Needs(Name::Value, Form::Text))],
@@ -52,7 +55,6 @@ pub(crate) fn arguments_of(kind: Kind) -> &'static [Argument]
         | Kind::Look(Look::Scopes)
         | Kind::Look(Look::Fault)
         | Kind::Look(Look::Program)
-        | Kind::Look(Look::Counts)
         | Kind::Pause
         | Kind::Terminate
         | Kind::Restart

@@ -38,16 +38,12 @@ fn page_variable(alloc: Global, page: u16) -> Result<Value, Memory>
 pub(crate) fn cells(alloc: Global, world: &World, page: u16) -> Result<Vec<Value>, Memory> {
     let mut list = Vec::new(alloc);
     for i in 0..PAGE {
-        if let Some(place) = place_in(page, i) {
+        let first = page.saturating_mul(PAGE);
+        if let Some(place) = Place::of(first.saturating_add(i)) {
             list.push(cell_variable(alloc, world, place)?)?;
         }
     }
     Ok(list)
-}
-
-// The cell of a page with a number.
-fn place_in(page: u16, i: u16) -> Option<Place> {
-    Place::of(page.checked_mul(PAGE)?.checked_add(i)?)
 }
 
 fn cell_variable(alloc: Global, world: &World, place: Place) -> Result<Value, Memory> {

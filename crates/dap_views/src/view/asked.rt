@@ -6,7 +6,7 @@ ghost use Rattle.dap_views.specs.Asked.{IsRange};
 use crate::view::decoded::{put_field, put_instruction};
 use crate::view::put_word;
 use dap_asked::{Fault, place_at};
-use mix_machine::{Place, Sign, Word, World};
+use mix_machine::{Place, Word, World};
 use mix_refused::{Memory, Refused};
 use mix_word::{CELLS, Field, Instruction};
 use rpc_message::{Fields, Request, natural};
@@ -52,7 +52,9 @@ fn range_of(range: &Value) -> Result<(u16, u16), Fault>
     ensures { IfOk result (λ range. IsRange range) }
 {
     let list = range.as_array().ok_or(Fault::BadArgument)?;
-    let (first, last) = two_in(list.as_slice()).ok_or(Fault::BadArgument)?;
+    let [first, last] = list.as_slice() else {
+        return Err(Fault::BadArgument);
+    };
     let first = natural(first).ok_or(Fault::BadArgument)?;
     let last = natural(last).ok_or(Fault::BadArgument)?;
     if first > last {
@@ -62,14 +64,6 @@ fn range_of(range: &Value) -> Result<(u16, u16), Fault>
         return Err(Fault::NoSuchThing);
     }
     Ok((first as u16, last as u16))
-}
-
-// The two members of a list of two.
-fn two_in(list: &[Value]) -> Option<(&Value, &Value)> {
-    match list {
-        [first, last] => Some((first, last)),
-        _ => None,
-    }
 }
 
 /// The cells that are asked for, and what of each beside its word and its text: the number of a field, and the instruction in its parts.
@@ -95,21 +89,9 @@ pub(crate) fn cells(alloc: Global, asked: &AskedCells<'_>) -> Result<Vec<Value>,
 }
 
 fn is_asked(asked: &AskedCells<'_>, place: Place) -> bool {
-    is_in_any(asked.ranges, place.number())
-        || (asked.nonzero && !is_plus_zero(asked.world.cell(place)))
-}
-
-fn is_in_any(ranges: &[(u16, u16)], number: u16) -> bool {
-    ranges
-        .iter()
-        .any(|range| range.0 <= number && number <= range.1)
-}
-
-fn is_plus_zero(word: Word) -> bool {
-    match word.sign() {
-        Sign::Plus => word.magnitude() == 0,
-        Sign::Minus => false,
-    }
+    let (number, word) = (place.number(), asked.world.cell(place));
+    let is_in = |range: &(u16, u16)| range.0 <= number && number <= range.1;
+    (asked.nonzero && word != Word::ZERO) || asked.ranges.iter().any(is_in)
 }
 
 fn cell_shown(alloc: Global, asked: &AskedCells<'_>, place: Place) -> Result<Value, Memory> {

@@ -14,18 +14,9 @@ pub(crate) fn field_asked(request: &Request) -> Result<Option<Field>, Refused<Fa
     let Some(code) = request.number("field") else {
         return Ok(None);
     };
-    match field_coded(code) {
+    match u8::try_from(code).ok().and_then(Field::of) {
         Some(field) => Ok(Some(field)),
         None => Err(Refused::Fault(Fault::NoSuchThing)),
-    }
-}
-
-// A code is one byte.
-fn field_coded(code: u64) -> Option<Field> {
-    if code < 64 {
-        Field::of(code as u8)
-    } else {
-        None
     }
 }
 

@@ -36,15 +36,14 @@ fn next_shown(alloc: Global, session: &Session, field: Option<Field>) -> Result<
     };
     let before = session.world();
     match after_step(alloc, session) {
-        Ok(after) => next_step(
-            alloc,
-            number,
-            &Worlds {
+        Ok(after) => {
+            let worlds = Worlds {
                 before,
                 after: &after,
                 field,
-            },
-        ),
+            };
+            Ok(change_between(alloc, number, Change::Step, &worlds)?.done())
+        }
         Err(Refused::Fault(fault)) => next_refused(alloc, number, before, fault),
         Err(Refused::Memory) => Err(Memory),
     }
@@ -63,10 +62,6 @@ fn after_step(alloc: Global, session: &Session) -> Result<World, Refused<MixFaul
         Err(Refused::Fault(fault)) => Err(Refused::Fault(fault)),
         Err(Refused::Memory) => Err(Refused::Memory),
     }
-}
-
-fn next_step(alloc: Global, number: u64, worlds: &Worlds<'_>) -> Result<Value, Memory> {
-    Ok(change_between(alloc, number, Change::Step, worlds)?.done())
 }
 
 fn next_refused(

@@ -17,24 +17,18 @@ pub fn path_view(
     session: &Session,
     request: &Request,
 ) -> Result<Value, Refused<Fault>> {
-    match span_asked(session, request) {
-        Some(span) => Ok(path_shown(alloc, session, span)?),
-        None => Err(Refused::Fault(Fault::BadArgument)),
-    }
-}
-
-// The range of the changes done that is asked for, if it has not too many columns.
-fn span_asked(session: &Session, request: &Request) -> Option<Span> {
-    let columns = request.number("columns")?;
-    if columns > MAX_COLUMNS {
-        return None;
-    }
     let done = session.changes().len() as u64;
-    Some(Span {
-        from: request.number("from").unwrap_or(0) as usize,
-        until: request.number("until").unwrap_or(done) as usize,
-        columns: columns as u16,
-    })
+    match request.number("columns") {
+        Some(columns) if columns <= MAX_COLUMNS => {
+            let span = Span {
+                from: request.number("from").unwrap_or(0) as usize,
+                until: request.number("until").unwrap_or(done) as usize,
+                columns: columns as u16,
+            };
+            Ok(path_shown(alloc, session, span)?)
+        }
+        _ => Err(Refused::Fault(Fault::BadArgument)),
+    }
 }
 
 fn path_shown(alloc: Global, session: &Session, span: Span) -> Result<Value, Memory> {

@@ -6,7 +6,7 @@ use crate::variables::unit_at;
 use crate::view::{put_digits, word_shown};
 use dap_asked::Fault;
 use held::put_held;
-use mix_machine::{Unit, UnitKind, UnitNo, Word, World};
+use mix_machine::{UnitKind, UnitNo, World};
 use mix_refused::{Memory, Refused};
 use mix_session::was_used;
 use rpc_message::{Fields, Request};
@@ -35,33 +35,23 @@ pub fn units_view(
 
 // One unit, with the words of a block where that is asked for.
 fn unit_asked(alloc: Global, world: &World, request: &Request) -> Result<Value, Refused<Fault>> {
-    let Some(number) = request.number("unit").and_then(unit_numbered) else {
+    let number = request.number("unit").unwrap_or(u64::MAX);
+    let Some(number) = u8::try_from(number).ok().and_then(UnitNo::of) else {
         return Err(Refused::Fault(Fault::NoSuchThing));
     };
     let mut fields = unit_fields(alloc, world, number)?;
-    if request.argument("block").is_some() {
-        match block_asked(world.unit(number), request) {
-            Some(words) => fields.list("block", words_of(alloc, words)?)?,
-            None => return Err(Refused::Fault(Fault::NoSuchThing)),
+    if let Some(block) = request.number("block") {
+        let block = u16::try_from(block).unwrap_or(u16::MAX);
+        let Some(words) = world.unit(number).block(block) else {
+            return Err(Refused::Fault(Fault::NoSuchThing));
+        };
+        let mut list = Vec::new(alloc);
+        for word in words {
+            list.push(word_shown(alloc, *word)?)?;
         }
+        fields.list("block", list)?;
     }
     Ok(fields.done())
-}
-
-fn unit_numbered(number: u64) -> Option<UnitNo> {
-    UnitNo::of(u8::try_from(number).ok()?)
-}
-
-fn block_asked<'a>(unit: &'a Unit, request: &Request) -> Option<&'a [Word]> {
-    unit.block(u16::try_from(request.number("block")?).ok()?)
-}
-
-fn words_of(alloc: Global, words: &[Word]) -> Result<Vec<Value>, Memory> {
-    let mut list = Vec::new(alloc);
-    for word in words {
-        list.push(word_shown(alloc, *word)?)?;
-    }
-    Ok(list)
 }
 
 fn unit_fields(alloc: Global, world: &World, number: UnitNo) -> Result<Fields, Memory> {

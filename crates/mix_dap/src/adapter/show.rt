@@ -12,8 +12,8 @@ use dap_asked::{
 };
 use dap_points::{breakpoint_locations, completions_view, disassemble, goto_targets, never};
 use dap_views::{
-    change_view, counts_view, next_view, path_view, program_view, state_view, units_view,
-    variables_view, writes_view,
+    analysis_view, change_view, counts_view, next_view, nodes_view, passages_view, path_view,
+    program_view, state_view, units_view, variables_view, writes_view,
 };
 use mix_machine::MixFault;
 use mix_refused::{Memory, Refused};
@@ -48,13 +48,16 @@ impl Adapter {
                 request,
             ),
             Look::Program => Ok(program_view(alloc, session.program())?),
-            Look::Counts => Ok(counts_view(alloc, session)?),
+            Look::Counts => Ok(counts_view(alloc, session, request)?),
             Look::Path => path_view(alloc, session, request),
             Look::State => state_view(alloc, session, request),
             Look::Units => units_view(alloc, session.world(), request),
             Look::Change => change_view(alloc, session, request),
             Look::Next => next_view(alloc, session, request),
             Look::Writes => writes_view(alloc, session, request),
+            Look::Nodes => nodes_view(alloc, session, request),
+            Look::Passages => passages_view(alloc, session, request),
+            Look::Analysis => analysis_view(alloc, session, request),
         }
     }
 
