@@ -21,6 +21,13 @@ pub struct Link {
     pub is_back: bool,
 }
 
+/// A head as it was typed, and where it leads.
+#[derive(Drop)]
+pub struct HeadTo {
+    pub text: Vec<u8>,
+    pub target: Target,
+}
+
 /// A node that can be reached.
 #[derive(Drop)]
 pub struct Node {
@@ -34,9 +41,8 @@ pub struct Node {
 
 /// What is seen of a shape.
 #[derive(Drop)]
-pub struct Graph<'a> {
-    /// Each head as it was typed, and where it leads.
-    pub heads: Vec<(&'a [u8], Target)>,
+pub struct Graph {
+    pub heads: Vec<HeadTo>,
     /// The index registers that lead to a node, and its cell.
     pub pointers: Vec<(Reg, u16)>,
     /// The nodes that can be reached, by rising cells.
@@ -46,9 +52,9 @@ pub struct Graph<'a> {
 }
 
 // Whether a link of a node of a row leads to a node whose row is not greater.
-fn leads_back(rows: &[Option<u16>], row: u16, target: Target) -> bool {
+fn leads_back(rows: &[Option<u16>], row: u16, target: &Target) -> bool {
     match target {
-        Target::Node(node, _) => match row_in(rows, node) {
+        Target::Node(node, _) => match row_in(rows, *node) {
             Some(other) => other <= row,
             None => true,
         },
@@ -76,7 +82,7 @@ fn node_of(
     let mut links = Vec::new(alloc);
     for field in &shape.links {
         let target = shape.link_target(world, node, *field);
-        let is_back = leads_back(rows, row, target);
+        let is_back = leads_back(rows, row, &target);
         links.push(Link { target, is_back })?;
     }
     Ok(Node {
@@ -109,13 +115,15 @@ fn nodes_of(
 }
 
 /// What is seen of a shape: of each node that can be reached the least number of links from a head. Only out of memory refuses it.
-pub fn graph_of<'a>(alloc: Global, world: &World, shape: &Shape<'a>) -> Result<Graph<'a>, Memory>
+pub fn graph_of(alloc: Global, world: &World, shape: &Shape) -> Result<Graph, Memory>
     ensures { IfOk result (λ graph. map node_seen graph.nodes.items ≡ nodes_below world.now shape.now (node_count shape.now)) }
 {
     let rows = rows_of(alloc, world, shape)?;
     let mut heads = Vec::new(alloc);
     for head in &shape.heads {
-        heads.push((head.text, shape.head_target(world, head)))?;
+        let text = Vec::from_slice(alloc, head.text)?;
+        let target = shape.head_target(world, head);
+        heads.push(HeadTo { text, target })?;
     }
     let mut pointers = Vec::new(alloc);
     for register in &POINTERS {

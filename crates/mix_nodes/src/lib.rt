@@ -12,7 +12,7 @@ mod shape;
 mod text;
 mod words;
 
-pub use graph::{Graph, Link, Node, graph_of};
+pub use graph::{Graph, HeadTo, Link, Node, graph_of};
 pub use read::read_shape;
 pub use rows::rows_of;
 pub use shape::{FieldAt, Head, HeadLink, Shape, Target};

@@ -57,11 +57,11 @@ fn add_node(text: &mut Vec<u8>, node: &Node) -> Result<(), AllocError> {
 /// The lines of `show nodes`.
 pub fn nodes_text(alloc: Global, graph: &Graph) -> Result<Vec<u8>, Memory> {
     let mut text = Vec::new(alloc);
-    for (head, target) in &graph.heads {
+    for head in &graph.heads {
         text.extend_from_slice(b"head ")?;
-        text.extend_from_slice(head)?;
+        text.extend_from_slice(&head.text)?;
         text.push(b' ')?;
-        add_target(&mut text, *target)?;
+        add_target(&mut text, head.target)?;
         text.push(b'\n')?;
     }
     for (register, cell) in &graph.pointers {

@@ -70,11 +70,11 @@ fn view_named(
 }
 
 /// The nodes that some words ask for (2.2.3); none where these say nothing. Only out of memory refuses it.
-pub fn nodes_asked<'a>(
+pub fn nodes_asked(
     alloc: Global,
     session: &Session,
-    words: &mut Words<'a>,
-) -> Result<Option<Graph<'a>>, Memory>
+    words: &mut Words,
+) -> Result<Option<Graph>, Memory>
     ensures { IfOk result (λ said. is_some said ≡ is_nodes session.now words.old) }
 {
     let world = session.world();

@@ -27,13 +27,13 @@ pub fn nodes_view(
     }
 }
 
-fn graph_shown(alloc: Global, graph: &Graph<'_>) -> Result<Value, Memory> {
+fn graph_shown(alloc: Global, graph: &Graph) -> Result<Value, Memory> {
     let mut heads = Vec::new(alloc);
-    for (text, target) in &graph.heads {
-        let mut head = Fields::new(alloc);
-        head.text("head", String::from_utf8_lossy(alloc, text)?.as_str())?;
-        put_target(alloc, &mut head, *target)?;
-        heads.push(head.done())?;
+    for head in &graph.heads {
+        let mut fields = Fields::new(alloc);
+        fields.text("head", String::from_utf8_lossy(alloc, &head.text)?.as_str())?;
+        put_target(alloc, &mut fields, head.target)?;
+        heads.push(fields.done())?;
     }
     let mut pointers = Vec::new(alloc);
     for (register, cell) in &graph.pointers {
