@@ -130,6 +130,8 @@ static int unopened(wchar_t *name)
     wchar_t *end = wcspbrk(name, L"/\\");
     if (errno == EACCES && is(name, 1))
         errno = EISDIR;
+    if (errno == ENOENT && wcslen(name) > 255)
+        errno = ENAMETOOLONG;
     for (; errno == ENOENT && end; end = wcspbrk(end + 1, L"/\\")) {
         wchar_t kept = *end;
         *end = 0;
