@@ -61,27 +61,8 @@ CALL(uint64_t, rattle_env_at, uint64_t i, place to, uint64_t room)
 }
 
 #ifndef MODULE
-struct tried { uint64_t ok; void *block; };
+#include "heap.h"
 
-static struct tried tried(void *block)
-{
-    static char nothing[16] __attribute__((aligned(16)));
-    return (struct tried){block != 0, block ? block : nothing};
-}
-
-struct tried rattle_alloc(size_t bytes, size_t alignment)
-{
-    (void)alignment;
-    return tried(malloc(bytes ? bytes : 1));
-}
-
-struct tried rattle_realloc(void *block, size_t kept, size_t bytes, size_t alignment)
-{
-    (void)kept, (void)alignment;
-    return tried(realloc(block, bytes ? bytes : 1));
-}
-
-void rattle_dealloc(void *block) { free(block); }
 int rattle_errno(void) { return errno; }
 void rattle_set_errno(int error) { errno = error; }
 

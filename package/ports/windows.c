@@ -15,37 +15,16 @@ enum { LONGEST = 4096, NO_FOLLOW = 0x100, NAMETOOLONG = 36, NOTEMPTY = 39, LINUX
 static size_t count;
 static wchar_t **words;
 
-/* Two words in registers, as C for Linux returns them. */
-struct tried { size_t ok; void *block; };
-#define OF_LINUX __attribute__((sysv_abi)) struct tried
+#define OF_LINUX __attribute__((sysv_abi))
+#include "heap.h"
 
-static struct tried tried(void *block)
-{
-    static char nothing[16] __attribute__((aligned(16)));
-    return (struct tried){block != 0, block ? block : nothing};
-}
-
-OF_LINUX rattle_alloc(size_t bytes, size_t alignment)
-{
-    (void)alignment;
-    return tried(malloc(bytes ? bytes : 1));
-}
-
-OF_LINUX rattle_realloc(void *block, size_t kept, size_t bytes, size_t alignment)
-{
-    (void)kept, (void)alignment;
-    return tried(realloc(block, bytes ? bytes : 1));
-}
-
-void rattle_dealloc(void *block) { free(block); }
 int rattle_errno(void) { return errno == ENAMETOOLONG ? NAMETOOLONG : errno == ENOTEMPTY ? NOTEMPTY : errno; }
 void rattle_set_errno(int error) { errno = error == NAMETOOLONG ? ENAMETOOLONG : error == NOTEMPTY ? ENOTEMPTY : error; }
 
 static void slashes(char *name)
 {
-    for (; *name; name++)
-        if (*name == '\\')
-            *name = '/';
+    while ((name = strchr(name, '\\')))
+        *name = '/';
 }
 
 /* A text's length, -1 if there is none, -2 if it does not fit; then the room is full. */
@@ -78,11 +57,7 @@ static const wchar_t *wide(const char *name, wchar_t *to)
 
 int64_t rattle_arg(size_t i, char *to, size_t room) { return put(i == 0 ? L"mixrev" : i < count ? words[i] : 0, to, room, 1); }
 
-int64_t rattle_env(const char *name, char *to, size_t room)
-{
-    wchar_t w[LONGEST];
-    return put(_wgetenv(wide(name, w)), to, room, 0);
-}
+int64_t rattle_env(const char *name, char *to, size_t room) { return put(_wgetenv(wide(name, (wchar_t[LONGEST]){0})), to, room, 0); }
 
 int64_t rattle_env_at(size_t i, char *to, size_t room)
 {
@@ -155,6 +130,8 @@ static int unopened(wchar_t *name)
     wchar_t *end = wcspbrk(name, L"/\\");
     if (errno == EACCES && is(name, 1))
         errno = EISDIR;
+    if (errno == ENOENT && wcslen(name) > 255)
+        errno = ENAMETOOLONG;
     for (; errno == ENOENT && end; end = wcspbrk(end + 1, L"/\\")) {
         wchar_t kept = *end;
         *end = 0;
@@ -210,19 +187,26 @@ char *l_realpath(const char *path, char *to)
     return slashes(to), to;
 }
 
+/* Windows replaces no file that is open: those that were read to their end are let go. */
+static void let_go(void)
+{
+    int nothing = _wopen(L"NUL", _O_RDONLY | _O_BINARY | _O_NOINHERIT);
+    for (int fd = 3; fd < 64; fd++)
+        if (fd != nothing && GetFileType(handle(fd)) == FILE_TYPE_DISK && _telli64(fd) == _filelengthi64(fd))
+            _dup2(nothing, fd);
+    _close(nothing);
+}
+
 /* On another drive it copies, since Windows can't do that at once. */
 int l_rename(const char *from, const char *to)
 {
+    enum { HOW = MOVEFILE_REPLACE_EXISTING | MOVEFILE_COPY_ALLOWED };
     wchar_t a[LONGEST], b[LONGEST];
-    return MoveFileExW(wide(from, a), wide(to, b), MOVEFILE_REPLACE_EXISTING | MOVEFILE_COPY_ALLOWED) ? 0 : (int)failed();
+    wide(from, a), wide(to, b);
+    return MoveFileExW(a, b, HOW) || (let_go(), MoveFileExW(a, b, HOW)) ? 0 : (int)failed();
 }
 
-int l_unlink(const char *path)
-{
-    wchar_t w[LONGEST];
-    return _wunlink(wide(path, w));
-}
-
+int l_unlink(const char *path) { return _wunlink(wide(path, (wchar_t[LONGEST]){0})); }
 int l_close(int fd) { return _close(fd); }
 int l_ftruncate(int fd, int64_t n) { return (errno = _chsize_s(fd, n)) ? -1 : 0; }
 int l_fsync(int fd) { return _commit(fd); }

@@ -157,7 +157,9 @@ static void files(void)
     fd = open(named("\xce\xb1 b"), WRITES | CREATE | CUT, 0666);
     is(write(fd, "", 0) == 0 && close(fd) == 0 && length_of("\xce\xb1 b") == 0, "a Greek name");
     char other[4096] = "file";
+    fd = open(named("\xce\xb1 b"), 0);
     is(rename(other, named("\xce\xb1 b")) == 0 && length_of("\xce\xb1 b") == 3, "it is put over another one");
+    is(read(fd, room, 1) == 0 && close(fd) == 0, "that one was open, and is at its end as before");
     is(fails(open(named("file"), 0), 2) && fails(mode_of(HERE, "file"), 2) && fails(unlink(named("file")), 2), "the old name is gone");
     is(fails(open(named("no/file"), WRITES | CREATE, 0666), 2), "no folder");
     is(fails(open(named("\xce\xb1 b/file"), 0), 20), "a file is no folder");
