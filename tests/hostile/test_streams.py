@@ -62,34 +62,24 @@ def closed_pipe(program, name, taken):
         return begun, errors, child.wait(SECONDS)
 
 
-def test_calls(program, place, refuse):
+def test_calls(runner):
     """How often a read and a write are called, by a library in front of the C library's."""
-    told = os.path.join(place, "called")
-    name = os.path.join(place, "calls")
-
-    def run(stdin):
-        if os.path.exists(told):
-            os.unlink(told)
-        answer = subprocess.run([program], stdin=stdin, capture_output=True, timeout=SECONDS, env={**os.environ, "LD_PRELOAD": refuse, "CALLED_TO": told})
-        return (answer.stdout, answer.stderr, answer.returncode), pathlib.Path(told).read_text().splitlines()
-
     # nothing is there to be read yet, and the writer is still there: it is no end, and to try again
     # would be to wait
     ours, theirs = os.pipe2(os.O_NONBLOCK)
-    assert run(ours) == ((b"", T2, 2), ["read -1"])
+    assert runner.behind("CALLED_TO", ours) == ((b"", T2, 2), [["read", "-1"]])
     os.write(theirs, TEXT)
-    assert run(ours) == ((b"", T2, 2), ["read %d" % len(TEXT), "read -1"])
+    calls = [["read", str(len(TEXT))], ["read", "-1"]]
+    assert runner.behind("CALLED_TO", ours) == ((b"", T2, 2), calls)
     os.close(ours)
     os.close(theirs)
     # 22 bytes a cell, 1,200,036 bytes a full tape
     tape = (b" ".join([b"+0102030405"] * 100) + b"\n") * 1000
     text = bundle(b" END 0\n", lines("show cells 0 2978", "show unit 0", "show all"), b"".join(b"%%UNIT %d\n" % unit + tape for unit in range(4)))
-    pathlib.Path(name).write_bytes(text)
-    with open(name, "rb") as file:
-        (output, _, status), called = run(file)
+    (output, _, status), called = runner.behind("CALLED_TO", text)
     sizes = [2979 * 22, 1200036, len(output) - 2979 * 22 - 1200036]
     # replies of 64 KiB, of 1 MB and of over 4 MiB are each written by one call
-    assert [line for line in called if line.startswith("write")] == ["write %d" % size for size in sizes]
+    assert [int(size) for call, size in called if call == "write"] == sizes
     assert status == 0 and sizes[2] > 4 << 20
 
 
