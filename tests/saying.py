@@ -1,13 +1,13 @@
 """What the program, the documents and the manual page say of the words of the program."""
 import os
-import pathlib
 import pty
 import re
 import shlex
 import subprocess
 import tempfile
 
-TOP = pathlib.Path(__file__).resolve().parent.parent
+from tests import TOP
+
 PAGE = TOP / "package" / "mixrev.1"
 SOURCE = " ENTA 5\n INCA 7\n STA 100\n HLT\n END 0\n"
 # What may stand for an argument in a line of a script, and one that does.

@@ -1,13 +1,13 @@
 """Bundles that are the examples and those of tests/runs/ with mistakes in them: bits flipped, lines doubled, cut, and spliced. The program against
 the model."""
 
-import pathlib
 import random
 import signal
 
 import pytest
 
-from tests.hostile.inputs import TOP, bundle, lines
+from tests import TOP
+from tests.hostile.inputs import bundle, lines
 from tests.hostile.test_cuts import DECK, GREETED, HELLO, READ, READS
 from tests.model import bundle as model
 from tests.runs.bundles import bundles
@@ -20,7 +20,7 @@ EDGES = [b"0", b"1", b"-1", b"63", b"64", b"999", b"1000", b"3999", b"4000", b"4
 
 
 def originals():
-    texts = [file.read_bytes() for file in sorted(pathlib.Path(TOP, "examples").glob("*.mixal"))] + [text.encode() for _, text, _ in bundles()]
+    texts = [file.read_bytes() for file in sorted(TOP.glob("examples/*.mixal"))] + [text.encode() for _, text, _ in bundles()]
     # and every kind of unit
     units = lines(*("show unit %d" % unit for unit in (0, 8, 16, 17, 18, 19, 20)))
     writes = lines(" IN 200(16)", " OUT 200(17)", " OUT 200(18)", " IOC 0(18)", " OUT 0(9)", " IN 0(0)", " JBUS *(19)", " OUT 0(19)", " IOC -1(0)", " HLT", " END 0")

@@ -1,12 +1,11 @@
 """A client of the language server: messages in frames, and texts that are counted as the protocol does."""
 import json
-import pathlib
 import re
 import subprocess
 
+from tests import TOP
 from tests.adapter.frames import frame
 
-TOP = pathlib.Path(__file__).resolve().parents[2]
 ENDS = re.compile("\r\n|\n|\r")
 
 
