@@ -8,7 +8,6 @@ from tests import TOP
 from tests.terminal.talking import GREETING, SECONDS, SOURCE, Terminal
 
 
-
 @pytest.fixture
 def folder(tmp_path):
     (tmp_path / "a.mixal").write_text(SOURCE)

@@ -11,7 +11,6 @@ from tests import TOP
 from tests.terminal.talking import GREETING, PROMPT, SECONDS, Terminal
 
 
-
 def test_byte_by_byte(program, folder):
     """Each reply comes when its line is whole, and not before; no prompt and no help where there is no terminal."""
     process = subprocess.Popen([program, "debug", "a.mixal"], cwd=folder, stdin=subprocess.PIPE, stdout=subprocess.PIPE, stderr=subprocess.PIPE, bufsize=0)
