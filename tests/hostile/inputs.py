@@ -4,7 +4,8 @@ import collections
 import pathlib
 import re
 
-from tests.rowfiles import parts
+from tests import rowfiles
+from tests.rows.faces import bytes_of
 
 HERE = pathlib.Path(__file__).resolve().parent
 
@@ -13,7 +14,7 @@ Bundle = collections.namedtuple("Bundle", "source deck script replies")
 
 def read_bundles():
     """The bundles of bundles.txt, each with its kind and name. After the lines of a script that begin with `$` stand their replies."""
-    for head, text in parts(HERE / "bundles.txt"):
+    for head, text in rowfiles.parts(HERE / "bundles.txt"):
         text, _, script = text.encode().partition(b"%SCRIPT\n")
         source, marker, deck = text.partition(b"%DEVICES\n")
         told = re.findall(rb"(?m)^\$ (.*\n)", script)
@@ -39,3 +40,10 @@ def whole(text):
 
 def lines(*texts):
     return b"".join(text.encode() + b"\n" for text in texts)
+
+
+def rows_of(kind):
+    """The rows of a kind in streams.rows, where `-` is nothing."""
+    for _, name, fields, last in rowfiles.rows_of(HERE / "streams.rows"):
+        if name == kind:
+            yield [None if field == "-" else bytes_of(field) for field in (*fields, last)]

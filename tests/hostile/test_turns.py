@@ -5,26 +5,16 @@ failed write a beginning of what is due stands there, and T3 is told; either way
 on how many bytes a call gives or takes. Each answer is worked out here, from the rules alone."""
 
 import itertools
-import pathlib
 
 import pytest
 
-from tests import rowfiles
-from tests.hostile.inputs import BUNDLES, bundle, lines
+from tests.hostile.inputs import BUNDLES, bundle, lines, rows_of
 from tests.hostile.test_streams import T2, T3
 from tests.model.program import Runner
-from tests.rows.faces import bytes_of
 
 FAILED = ["write", "-1"]
 ALL = 1 << 20  # more bytes than any of these runs reads or writes
 SIZES = (1, 7, ALL)
-
-
-def rows_of(kind):
-    """The rows of a kind in turned.rows, where `-` is nothing."""
-    found = rowfiles.rows_of(pathlib.Path(__file__).with_name("turned.rows"))
-    return [[None if field == "-" else bytes_of(field) for field in (*fields, last)] for _, name, fields, last in found if name == kind]
-
 
 LISTED = [(source, int(status), listing) for source, status, listing in rows_of("listed")]
 FAILED_LISTS = [(*LISTED[int(row)][::2], *map(int, numbers)) for row, *numbers in rows_of("failed")]
