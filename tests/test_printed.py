@@ -12,6 +12,7 @@ import pytest
 
 from machine import CHARACTERS
 from tests import REGISTERS, TOP
+from tests.rows import faces
 
 COUNT = re.compile(r" *(\d+) +(\d+)  (\d{4})(?:  ([ \d]{5}).*)?")
 STEP = re.compile(r" *(\d+)  (\d{4})  (.*?) +(\d+)u(?:  (.*))?")
@@ -124,12 +125,7 @@ def test_drawn(run, tmp_path, source, deck, page):
 
 def value(text):
     """A word of a line of a step, as a table has it: a number, where -0 is -0; on, off, L, E and G are themselves."""
-    if text[0] not in "+-":
-        return text
-    number = 0
-    for byte in text.split()[1:]:
-        number = 64 * number + int(byte)
-    return ("-" if text[0] == "-" else "") + str(number)
+    return faces.number(text) if text[0] in "+-" else text
 
 
 def table(run, source, deck, *words):

@@ -2,9 +2,7 @@
 
 from tests.model.operations import NAMES, NEEDS_FIELD, NEEDS_NO_ADDRESS, operation
 from tests.model.texts import Fault
-from tests.model.units import (
-    begun, check_control, check_in, check_out, control, is_busy, kind_of, no_units, read, write,
-)
+from tests.model.units import begun, check, control, is_busy, kind_of, no_units, read, write
 from tests.model.words import (
     FIELDS, ZERO, add, compare, div, field_value, instruction, mul, negated, num, number, put_field,
     shift, sub, to_char, word_of,
@@ -181,10 +179,9 @@ def transfer(w, kind_of_transfer, f, m):
     """IN, OUT and IOC. The clock was one lower before this step."""
     kind, unit = kind_of(f), w.units[f]
     if kind_of_transfer == "IOC":
-        check_control(kind, unit, m)
         unit = control(kind, unit, m)
     else:
-        (check_in if kind_of_transfer == "IN" else check_out)(kind)
+        check(kind, "input" if kind_of_transfer == "IN" else "output")
         place_of(m)
         place_of(m + kind.size - 1)
         cells = range(m, m + kind.size)
