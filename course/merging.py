@@ -4,6 +4,7 @@ import random
 
 from counting import RUN, Lesson, measured, times
 from machine import CHARACTERS
+from sorting import along_links
 
 
 def merges_of(keys):
@@ -30,9 +31,7 @@ def list_merge_sort(run):
     for table in tables:
         n = len(table)
         ran = run(N=n, data=table, script=[*RUN, "show values LINK LINK+N"])
-        links, order = ran.numbers("show values LINK LINK+N"), []
-        while (at := abs(links[order[-1] if order else 0])) and len(order) <= n:
-            order.append(at)
+        order = along_links(ran, n)
         yield f"the order of {table}, equal keys as they were", order, sorted(range(1, n + 1), key=lambda k: table[k - 1])
         yield from times(ran, N=n, **merges_of(table))
         low = [draw.randrange(1, 9) for _ in table]

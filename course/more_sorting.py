@@ -2,7 +2,7 @@
 import itertools
 
 from counting import RUN, Lesson, times
-from sorting import SHOW, drawn_tables, inversions, right_maxima
+from sorting import SHOW, along_links, drawn_tables, inversions, right_maxima
 
 OWN = [50, 20, 70, 10, 40, 30, 80, 60]
 TABLES = [OWN, [1, 2], [2, 1], list(range(9)), list(range(12, 0, -1)), *drawn_tables(52, (3, 16, 25))]
@@ -24,20 +24,11 @@ def list_insertion(run):
     for keys in TABLES:
         n = len(keys)
         ran = run(N=n, data=keys, script=[*RUN, "show values LINK LINK+N"])
-        links = ran.numbers("show values LINK LINK+N")
-        yield f"the order of {keys}", along_links_of(links), sorted(range(1, n + 1), key=lambda k: keys[k - 1])
+        yield f"the order of {keys}", along_links(ran, n), sorted(range(1, n + 1), key=lambda k: keys[k - 1])
         yield from times(ran, N=n, A=right_maxima(keys), B=inversions(keys))
         shows = ["show values HEAD HEAD+9", f"show values LINK+1 LINK+{n}"]
         ran = run("answer.mixal", N=n, data=keys, script=["run 100000", *shows])
         yield f"several lists of {keys}", tuple(ran.numbers(show) for show in shows), linked(hundreds(keys), n)
-
-
-def along_links_of(links):
-    found, at = [], links[0]
-    while at:
-        found.append(at)
-        at = links[at]
-    return found
 
 
 def comparison_counting(run):

@@ -133,12 +133,10 @@ def merges(table):
 
 
 def along_links(outcome, size):
-    """The numbers of the keys in the order of the links."""
+    """The numbers of the keys in the order of the links, of which a negative one leads on too."""
     links, order = outcome.numbers("show values LINK LINK+N"), []
-    at = links[0]
-    while at and len(order) < size:
+    while (at := abs(links[order[-1] if order else 0])) and len(order) <= size:
         order.append(at)
-        at = links[at]
     return order
 
 

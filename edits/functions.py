@@ -42,15 +42,11 @@ def end_of(lines, first, indent):
     """The last line of what begins at a line with this indent, as rustfmt lays it out."""
     if lines[first].rstrip().endswith(("}", ";")):
         return first
-    for at in range(first + 1, len(lines)):
-        line = lines[at]
+    inside = tuple(indent + begin for begin in (" ", ")", "{", "where"))
+    for at, line in enumerate(lines[first + 1 :], first + 1):
         if line == f"{indent}}}":
             return at
-        if (
-            line.strip()
-            and not line.startswith(f"{indent} ")
-            and not line.startswith((f"{indent})", f"{indent}{{", f"{indent}where"))
-        ):
+        if line.strip() and not line.startswith(inside):
             return at - 1
     return len(lines) - 1
 
@@ -58,50 +54,29 @@ def end_of(lines, first, indent):
 def functions_of(crate, file, text):
     """The functions of a file of a crate."""
     lines, found, owner, of_trait, block_ends = text.split("\n"), [], "", "", -1
-    modules = [
-        word
-        for word in file.removeprefix("src/").removesuffix(".rt").split("/")
-        if word not in ("lib", "main")
-    ]
+    modules = file.removeprefix("src/").removesuffix(".rt").split("/")
+    modules = [word for word in modules if word not in ("lib", "main")]
     for at, line in enumerate(lines):
-        block = BLOCK.match(line)
-        if block:
-            header = " ".join(
-                lines[at : next(k for k in range(at, len(lines)) if "{" in lines[k]) + 1]
-            )
-            (owner, of_trait), block_ends = owner_of(*BLOCK.match(header).groups()), end_of(
-                lines, at, ""
-            )
+        if BLOCK.match(line):
+            last = next(k for k in range(at, len(lines)) if "{" in lines[k])
+            header = BLOCK.match(" ".join(lines[at : last + 1]))
+            (owner, of_trait), block_ends = owner_of(*header.groups()), end_of(lines, at, "")
         function = FUNCTION.match(line)
         if function:
-            is_inside = at <= block_ends
-            inside = owner if is_inside else ""
+            indent, word = function.groups()
+            inside, trait = (owner, of_trait) if at <= block_ends else ("", "")
             # A type's functions have the name of the module of the type, which may be another one.
-            before = r"(?:\w+::)*" + inside if inside else "::".join(modules)
-            name = "::".join([crate, *([before] if before else []), function[2]])
-            end = name if not inside else function[2] if of_trait else f"{inside}::{function[2]}"
-            found.append(
-                Function(
-                    file,
-                    at,
-                    end_of(lines, at, function[1]),
-                    name,
-                    function[2],
-                    end,
-                    of_trait if is_inside else "",
-                )
-            )
+            before = [r"(?:\w+::)*" + inside] if inside else modules
+            name = "::".join([crate, *before, word])
+            end = name if not inside else word if trait else f"{inside}::{word}"
+            found.append(Function(file, at, end_of(lines, at, indent), name, word, end, trait))
     return found
 
 
 def is_of(function, printed):
     """Whether a name that the prover prints is that of the function, or of a closure in it."""
-    has_closure = "::fn::" in printed
-    return bool(
-        re.fullmatch(
-            function.name + ("(?:::.*)?" if has_closure else ""), printed.replace("::fn::", "::")
-        )
-    )
+    closure = "(?:::.*)?" if "::fn::" in printed else ""
+    return re.fullmatch(function.name + closure, printed.replace("::fn::", "::")) is not None
 
 
 def changed_by(mistake, crate, text_of):
@@ -113,10 +88,8 @@ def changed_by(mistake, crate, text_of):
         if at >= 0:
             # What begins with blank lines or an indent begins where its words do.
             line = text.count("\n", 0, at + len(old) - len(old.lstrip()))
-            where = next(
-                (one for one in functions_of(crate, file, text) if one.first <= line <= one.last),
-                None,
-            )
+            functions = functions_of(crate, file, text)
+            where = next((one for one in functions if one.first <= line <= one.last), None)
         # A text that an earlier change made stands where that one was.
         if where is None:
             outside = True

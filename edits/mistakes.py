@@ -1,6 +1,6 @@
 """Mistakes that are put into crates, to see whether the prover finds them.
 
-A file has a record for each mistake, and an empty line between two:
+A text has a record for each mistake, and an empty line between two:
 
     # What is wrong, in a sentence.
     name: a_name_of_words
@@ -10,10 +10,9 @@ A file has a record for each mistake, and an empty line between two:
 
 The text `old` stands once in the file, and `new` comes in its place. Further pairs apply to what
 the earlier ones made. A text of several lines has a line `old:` or `new:` for each. Where the name
-is left out it is that of the file."""
+is left out it is that of the file `NAME.edit` of the gate."""
 
 import collections
-import pathlib
 
 Mistake = collections.namedtuple("Mistake", "name says changes")
 Change = collections.namedtuple("Change", "file old new")
@@ -48,14 +47,12 @@ def record_of(lines, name):
     return Mistake(name, says, [Change(*it) for it in texts])
 
 
-def read(path):
-    """The mistakes of a file."""
-    path = pathlib.Path(path)
-    paragraphs = path.read_text(encoding="utf-8").strip("\n").split("\n\n")
+def records_of(text, name):
+    """The mistakes of a text; one without a name has this name."""
     try:
-        return [record_of(it.split("\n"), path.stem) for it in paragraphs]
+        return [record_of(it.split("\n"), name) for it in text.strip("\n").split("\n\n")]
     except Unfit as why:
-        raise Unfit(f"{path}: {why}") from None
+        raise Unfit(f"{name}: {why}") from None
 
 
 def put_in(mistake, text_of):

@@ -1,14 +1,12 @@
 """Asks the debug adapter about the run of a program, reads symbols and expressions as the model does, and writes words, registers, rows and changes as the
 program does, for tests alone."""
-import pathlib
 
+from tests import REGISTERS
 from tests.adapter.frames import DONE, framed, launch, messages, sent
 from tests.model import words
 from tests.model.assembler import assemble
 from tests.model.expressions import expression
 
-TOP = pathlib.Path(__file__).resolve().parent.parent
-REGISTERS = ("A", "X", "I1", "I2", "I3", "I4", "I5", "I6", "J")
 STATE = ("mix/state", {"cells": [], "nonzero": True})
 
 

@@ -1,5 +1,10 @@
 """What the tests for pytest have in common: the program that is tested, and a talk with its adapter."""
+import os
+import tempfile
+
 import pytest
+
+from tests.model.program import Runner
 
 
 def pytest_addoption(parser):
@@ -9,9 +14,21 @@ def pytest_addoption(parser):
     parser.addoption("--again", metavar="FILE", help="the program of tests/hostile/again")
 
 
-@pytest.fixture
+@pytest.fixture(scope="session")
 def program(request):
     return request.config.getoption("--program")
+
+
+@pytest.fixture(scope="module")
+def place():
+    """A folder for the files of runs, in memory where there is one."""
+    with tempfile.TemporaryDirectory(dir="/dev/shm" if os.path.isdir("/dev/shm") else None) as name:
+        yield name
+
+
+@pytest.fixture(scope="module")
+def runner(program, place):
+    return Runner(program, place)
 
 
 @pytest.fixture

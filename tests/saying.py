@@ -1,13 +1,11 @@
 """What the program, the documents and the manual page say of the words of the program."""
-import os
-import pathlib
-import pty
 import re
 import shlex
 import subprocess
-import tempfile
 
-TOP = pathlib.Path(__file__).resolve().parent.parent
+from running import at_a_terminal
+from tests import TOP
+
 PAGE = TOP / "package" / "mixrev.1"
 SOURCE = " ENTA 5\n INCA 7\n STA 100\n HLT\n END 0\n"
 # What may stand for an argument in a line of a script, and one that does.
@@ -48,16 +46,9 @@ def told(program, *words):
 
 def helped(program, words):
     """What `help` says at a terminal of each word; what it says alone is that of ""."""
-    terminal, person = pty.openpty()
-    with tempfile.NamedTemporaryFile("w", suffix=".mixal") as source:
-        source.write(SOURCE)
-        source.flush()
-        talk = subprocess.Popen([program, "debug", source.name], stdin=person, stdout=subprocess.DEVNULL, stderr=subprocess.PIPE, text=True)
-        os.close(person)
-        os.write(terminal, "".join(f"help {word}\n" for word in words).encode() + b"help\nquit\n")
-        replies = talk.communicate(timeout=60)[1].split("(mixrev) ")[1:]
-    os.close(terminal)
-    return dict(zip([*words, ""], replies))
+    lines = [*(f"help {word}" for word in words), "help"]
+    _, *replies = at_a_terminal(program, [SOURCE.splitlines()], lines, "(mixrev) ")
+    return dict(zip([*words, ""], map("\n".join, replies)))
 
 
 def rows_of_help(command, text):

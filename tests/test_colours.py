@@ -16,10 +16,10 @@ import tempfile
 import pytest
 
 from machine import TIMES
+from tests import TOP
 from tests.adapter.textmate import Grammar
 from tests.runs.bundles import bundles
 
-TOP = pathlib.Path(__file__).resolve().parent.parent
 EDITORS = TOP / "editors"
 PSEUDO = {"EQU", "ORIG", "CON", "ALF", "END"}
 

@@ -4,13 +4,13 @@
 - A row of a table that has a cell headed "Input", "Script", "Small input" or "Small script" is a run too.
   An input is the format of printf; a script without an input stands after the source " END".
 - A row that has a cell headed "Checked" is a check of that source, the format of printf. The cell "Reported" has each line, column and text."""
-import pathlib
 import re
 import subprocess
 
 import pytest
 
-TOP = pathlib.Path(__file__).resolve().parent.parent
+from tests import TOP
+
 PAIR = re.compile(r"```mix\n(.*?)```(.*?)```text\n(.*?)```", re.S)
 CODE = re.compile(r"`([^`]+)`")
 ESCAPES = {"n": "\n", "r": "\r", "f": "\f", "t": "\t", "%": "%"}

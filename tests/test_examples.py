@@ -10,7 +10,8 @@ import pytest
 
 from counting import time_of
 from first_programs import is_prime
-from tests.asking import TOP, change, registers, row, written
+from tests import TOP
+from tests.asking import change, registers, row, written
 
 EXAMPLES = TOP / "examples"
 PRIMES = [n for n in range(2, 4000) if is_prime(n)][:500]

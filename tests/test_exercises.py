@@ -5,7 +5,6 @@ itself. A program that only stores what is wanted in its own case gets half of t
 each of them must get. They are the cases of a student whose ID is the word SEED of the environment, or ada. A small source tries what a case can
 ask of cells, data and limits."""
 import os
-import pathlib
 import re
 import subprocess
 
@@ -13,9 +12,9 @@ import pytest
 
 import variants
 from running import COURSE
+from tests import REGISTERS, TOP
 from tests.rowfiles import parts
 
-TOP = pathlib.Path(__file__).resolve().parent.parent
 SMALL = """N       EQU  3
 START   ENT1 N
 LOOP    INCA 2
@@ -47,7 +46,6 @@ FORMS = [
 ]
 
 STUDENT = os.environ.get("SEED", "ada")
-REGISTERS = ["A", "X", "I1", "I2", "I3", "I4", "I5", "I6", "J"]
 SLOW = ("04", "60")  # the lesson's program does the same as the exercise, and takes longer
 # What a program must get: of the cases that it fails, of its points and of all points.
 MUST = {

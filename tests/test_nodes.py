@@ -8,7 +8,8 @@ import re
 import pytest
 
 from running import Bundle, at_a_terminal, replies_of
-from tests.asking import STATE, TOP, Machine, asked, line, symbols_of, told, total_of, value_of
+from tests import TOP
+from tests.asking import STATE, Machine, asked, line, symbols_of, told, total_of, value_of
 from tests.model import words
 
 REMARK = "* nodes: "

@@ -9,7 +9,8 @@ import re
 import pytest
 
 from running import Bundle
-from tests.asking import REGISTERS, STATE, TOP, Machine, asked, line, symbols_of, told, total_of, value_of
+from tests import REGISTERS, TOP
+from tests.asking import STATE, Machine, asked, line, symbols_of, told, total_of, value_of
 from tests.model.words import number_text
 
 MOST = 200  # passages that are told

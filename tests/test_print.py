@@ -3,15 +3,14 @@
 A page without the answer has all of the lesson but its answer; the card has each operation and each character. The command cmark-gfm comes from Debian, and is
 installed if it is missing."""
 import html
-import pathlib
 import re
 import subprocess
 
 import pytest
 
 from machine import CHARACTERS, FORMS, codes, said
+from tests import TOP
 
-TOP = pathlib.Path(__file__).resolve().parent.parent
 COURSE = TOP / "course"
 
 

@@ -3,7 +3,6 @@ import collections
 import csv
 import json
 import os
-import pathlib
 import random
 import re
 import subprocess
@@ -12,12 +11,12 @@ import xml.etree.ElementTree
 import pytest
 
 from machine import CHARACTERS
+from tests import REGISTERS, TOP
+from tests.rows import faces
 
-TOP = pathlib.Path(__file__).resolve().parent.parent
 COUNT = re.compile(r" *(\d+) +(\d+)  (\d{4})(?:  ([ \d]{5}).*)?")
 STEP = re.compile(r" *(\d+)  (\d{4})  (.*?) +(\d+)u(?:  (.*))?")
 ALTERED = re.compile(r"(?:^|  )(A|X|I[1-6]|J|over|cmp) (\S+(?: \d\d)*) -> (\S+(?: \d\d)*)")
-REGISTERS = ["A", "X", "I1", "I2", "I3", "I4", "I5", "I6", "J"]
 TRANSFER = re.compile(r"^[^*%]*\b(IN|OUT) ", re.M)
 LOOP = " ENT1 2\nLOOP DEC1 1\n INC1 1\n J1P LOOP\n END 0\n"
 HALT = " HLT\n END 0\n"
@@ -126,12 +125,7 @@ def test_drawn(run, tmp_path, source, deck, page):
 
 def value(text):
     """A word of a line of a step, as a table has it: a number, where -0 is -0; on, off, L, E and G are themselves."""
-    if text[0] not in "+-":
-        return text
-    number = 0
-    for byte in text.split()[1:]:
-        number = 64 * number + int(byte)
-    return ("-" if text[0] == "-" else "") + str(number)
+    return faces.number(text) if text[0] in "+-" else text
 
 
 def table(run, source, deck, *words):

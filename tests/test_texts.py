@@ -4,13 +4,13 @@ A text is a literal of the code of a crate (crates/*/src), cut at its line ends 
 - in a literal of a definition (crates/*/specs), which the prover holds the code to,
 - or in what a test gives or wants: files of tests/, the documents that tests/test_documents.py runs, and docs/operations.tsv.
 What has fewer than three letters says nothing."""
-import pathlib
 import re
 import subprocess
 
 import pytest
 
-TOP = pathlib.Path(__file__).resolve().parent.parent
+from tests import TOP
+
 ESCAPES = {"n": "\n", "r": "\r", "t": "\t", "0": "\0"}
 # A comment, a character, or a literal of the code.
 TOKEN = re.compile(r"//[^\n]*|b?'(?:[^'\\\n]|\\[^\n]{1,8}?)'|b?\"((?:[^\"\\]|\\.)*)\"", re.S)

@@ -99,6 +99,31 @@ def messages(output):
         yield json.loads(output[head.end():at])
 
 
+class Channel:
+    """A server of frames that is talked with message by message."""
+
+    def __init__(self, command):
+        pipes = {"stdin": subprocess.PIPE, "stdout": subprocess.PIPE}
+        self.process = subprocess.Popen(command, **pipes)
+
+    def send(self, body):
+        self.process.stdin.write(frame(body))
+        self.process.stdin.flush()
+
+    def read_frame(self):
+        """The body of the next frame."""
+        length = 0
+        while (line := self.process.stdout.readline()) not in (b"\r\n", b""):
+            name, value = line.split(b":")
+            length = int(value) if name.lower() == b"content-length" else length
+        return self.process.stdout.read(length)
+
+    def end(self):
+        """The status, after the end of the input."""
+        self.process.stdin.close()
+        return self.process.wait(20)
+
+
 def sent(command, text):
     """What is sent, what is told on standard error, and the status."""
     ran = subprocess.run(command, input=text, capture_output=True, timeout=120)

@@ -12,7 +12,7 @@ from hypothesis import strategies as st
 
 from tests.adapter import schema
 from tests.adapter.frames import frame, heard, messages, request, sent
-from tests.drawing import drawn_anew
+from tests.drawing import altered, drawn_anew
 from tests.model import bundle as model
 
 HERE = os.path.dirname(os.path.abspath(__file__))
@@ -35,20 +35,12 @@ EDGES = [b"0", b"-1", b"1", b"16", b"999", b"1000", b"4000", b"1e3", b"184467440
 
 
 def changed(draw, text):
-    """A text with a bit flipped, bytes put in or taken out, or a value in place of another."""
-    at = draw.randrange(len(text) + 1)
-    kind = draw.randrange(5)
-    if kind == 0 and at < len(text):
-        return text[:at] + bytes([text[at] ^ 1 << draw.randrange(8)]) + text[at + 1:]
-    if kind == 1:
-        return text[:at] + text[at + draw.randrange(1, 9):]
-    if kind == 2:
-        return text[:at] + bytes(draw.randrange(256) for _ in range(draw.randrange(1, 4))) + text[at:]
+    """A text with some bytes altered, or a value replaced by another."""
     values = list(re.finditer(rb'(?<=: )("[^"]*"|-?\d+|true|false)', text))
-    if not values:
-        return text + b" "
+    if not values or draw.randrange(5) < 3:
+        return altered(draw, text, EDGES)
     value = draw.choice(values)
-    return text[:value.start()] + draw.choice(EDGES) + text[value.end():]
+    return text[: value.start()] + draw.choice(EDGES) + text[value.end() :]
 
 
 def mutant(draw):

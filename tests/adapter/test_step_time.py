@@ -3,34 +3,28 @@
 `next` and its stop, then stackTrace, scopes and variables, one after the other over pipes, as an editor asks for them. Of ten batches of 100 the
 median of the best is printed. A millisecond is what an editor is promised; only ten of them fail, since computers differ. A run of a
 million steps is to pause within ten seconds."""
+import itertools
 import json
 import statistics
-import subprocess
 import time
 
-from tests.adapter.frames import frame, request
+from tests.adapter.frames import Channel, request
 from tests.adapter.test_debug_talks import program
 
 MOST = 10_000  # microseconds
 
 
-class Talk:
-    def __init__(self, command):
-        self.process = subprocess.Popen(command, stdin=subprocess.PIPE, stdout=subprocess.PIPE, bufsize=-1)
-        self.seq = 0
+class Talk(Channel):
+    numbers = itertools.count(1)
 
     def ask(self, command, until="response", **arguments):
         """Sends a request, and reads up to its response, or up to an event."""
-        self.seq += 1
-        self.process.stdin.write(frame(request(self.seq, command, arguments)))
-        self.process.stdin.flush()
-        while True:
-            length = int(self.process.stdout.readline().split(b":")[1])
-            self.process.stdout.readline()
-            body = self.process.stdout.read(length)
-            # read as JSON only where it is waited for: what is measured is the adapter
-            if until == "response" and b'"type":"response"' in body or until != "response" and b'"event":"%s"' % until.encode() in body:
-                return json.loads(body)
+        self.send(request(next(self.numbers), command, arguments))
+        end = b'"type":"response"' if until == "response" else b'"event":"%s"' % until.encode()
+        # read as JSON only where it is waited for: what is measured is the adapter
+        while end not in (body := self.read_frame()):
+            pass
+        return json.loads(body)
 
     def step(self):
         self.ask("next", "stopped", threadId=1)
@@ -56,8 +50,7 @@ def test_steps(command):
     assert found == "changes 1000", "a thousand steps were done"
     assert min(medians) <= MOST, ("a step with its three views takes ten milliseconds at most", f"{min(medians):.0f} microseconds")
     print(f"a step with its three views: {min(medians):.0f} microseconds")
-    talk.process.stdin.close()
-    assert talk.process.wait(10) == 0, "status at the end"
+    assert talk.end() == 0, "status at the end"
 
 
 def test_long_runs(talk):

@@ -1,20 +1,20 @@
 """Bundles, and the parts of which they are put together."""
 
 import collections
-import os
+import pathlib
 import re
 
-from tests.rowfiles import parts
+from tests import rowfiles
+from tests.rows.faces import bytes_of
 
-HERE = os.path.dirname(os.path.abspath(__file__))
-TOP = os.path.dirname(os.path.dirname(HERE))
+HERE = pathlib.Path(__file__).resolve().parent
 
 Bundle = collections.namedtuple("Bundle", "source deck script replies")
 
 
 def read_bundles():
     """The bundles of bundles.txt, each with its kind and name. After the lines of a script that begin with `$` stand their replies."""
-    for head, text in parts(os.path.join(HERE, "bundles.txt")):
+    for head, text in rowfiles.parts(HERE / "bundles.txt"):
         text, _, script = text.encode().partition(b"%SCRIPT\n")
         source, marker, deck = text.partition(b"%DEVICES\n")
         told = re.findall(rb"(?m)^\$ (.*\n)", script)
@@ -40,3 +40,10 @@ def whole(text):
 
 def lines(*texts):
     return b"".join(text.encode() + b"\n" for text in texts)
+
+
+def rows_of(kind):
+    """The rows of a kind in streams.rows, where `-` is nothing."""
+    for _, name, fields, last in rowfiles.rows_of(HERE / "streams.rows"):
+        if name == kind:
+            yield [None if field == "-" else bytes_of(field) for field in (*fields, last)]

@@ -13,8 +13,6 @@ What a command asks for is what a script asks for with it as the last line, beyo
 - A change that is refused needs nothing, and may have made room in the lists. What stands ahead stays until a new change is accepted.
 - A text that is read whole by one read takes as many bytes as it has, at least 8."""
 
-import os
-
 import pytest
 
 from tests.hostile.inputs import lines
@@ -74,25 +72,19 @@ ROWS = [
 STEPS = 100000
 
 
-class Asking:
-    """Runs of a program, with the bytes of each allocation that it asks for."""
+def run(runner, text):
+    """The answer of a run, and the bytes of each allocation that it asks for."""
+    answer, asked = runner.behind("ASKED_TO", text)
+    return answer, [int(size) for (size,) in asked]
 
-    def __init__(self, runner, place, library):
-        self.runner, self.library, self.told = runner, library, os.path.join(place, "asked")
 
-    def run(self, text):
-        if os.path.exists(self.told):
-            os.unlink(self.told)
-        answer = self.runner.run(text, (), {"LD_PRELOAD": self.library, "ASKED_TO": self.told})
-        with open(self.told, "rb") as file:
-            return answer, [int(line) for line in file]
-
-    def beyond(self, source, before, line):
-        """What the last line writes, and what it asks for; None where what stands before it asks for something else than before a remark."""
-        start = source + b"%SCRIPT\n" + before
-        (output, _, _), asked = self.run(start + line + b"\n")
-        (less, _, _), known = self.run(start + b"*" * len(line) + b"\n")
-        return output[len(less):], asked[len(known):] if asked[:len(known)] == known else None
+def beyond(runner, source, before, line):
+    """The reply to the last line, and what it asks for; None where what stands before it asks for
+    something else than before a remark."""
+    start = source + b"%SCRIPT\n" + before
+    (output, _, _), asked = run(runner, start + line + b"\n")
+    (less, _, _), known = run(runner, start + b"*" * len(line) + b"\n")
+    return output[len(less) :], asked[len(known) :] if asked[: len(known)] == known else None
 
 
 def is_for_reply(asked, reply):
@@ -103,41 +95,34 @@ def is_for_reply(asked, reply):
         len(reply) <= asked[-1] and sum(asked) < 4 * len(reply) + 8
 
 
-@pytest.fixture
-def asking(runner, place, refuse):
-    return Asking(runner, place, refuse)
-
-
 @pytest.mark.parametrize("name, source, before, line, needed, reply", ROWS, ids=[row[0] for row in ROWS])
-def test_command(asking, name, source, before, line, needed, reply):
-    output, asked = asking.beyond(source, before, line)
+def test_command(runner, name, source, before, line, needed, reply):
+    output, asked = beyond(runner, source, before, line)
     assert asked is not None
-    for some in needed if isinstance(needed, tuple) else (needed,):
-        if sorted(asked[:len(some)]) == sorted(some) and is_for_reply(asked[len(some):], reply):
-            break
-    else:
-        raise AssertionError(f"{asked}, and not {needed} and a text of {len(reply)} bytes")
+    ways = needed if isinstance(needed, tuple) else (needed,)
+    first = [(sorted(asked[: len(some)]), asked[len(some) :]) for some in ways]
+    assert any(one == sorted(some) and is_for_reply(more, reply) for some, (one, more) in zip(ways, first))
     assert output == reply
 
 
-def test_cells_come_last(asking):
+def test_cells_come_last(runner):
     """A journal and a session ask for nothing: the cells are asked for last."""
-    _, asked = asking.run(lines(" END 0"))
+    _, asked = run(runner, lines(" END 0"))
     assert asked[-1:] == [CELLS] and asked.count(CELLS) == 1
 
 
 @pytest.mark.parametrize("size", [8, 100, 1000, 4000])
-def test_read(asking, size):
+def test_read(runner, size):
     """What a read of so many bytes asks for, and of one more."""
-    _, less = asking.run(lines(" END 0").ljust(size, b"*"))
-    _, more = asking.run(lines(" END 0").ljust(size + 1, b"*"))
+    _, less = run(runner, lines(" END 0").ljust(size, b"*"))
+    _, more = run(runner, lines(" END 0").ljust(size + 1, b"*"))
     assert [pair for pair in zip(less, more) if pair[0] != pair[1]] == [(size, size + 1)]
     assert len(more) == len(less)
 
 
-def test_many_steps(asking):
+def test_many_steps(runner):
     """Each list is doubled, nothing else is asked for, and nothing again where it was before."""
-    _, asked = asking.run(LOOP + b"%%SCRIPT\nrun %d\n" % STEPS)
+    _, asked = run(runner, LOOP + b"%%SCRIPT\nrun %d\n" % STEPS)
     after = asked[asked.index(CELLS) + 1 :]
     rest = list(after)
     for one in [4 * RUN, *grown(UNIT, MOST, (STEPS - 1) + MOST)]:
@@ -145,5 +130,5 @@ def test_many_steps(asking):
         rest.remove(one)
     reply = b"ran %d to 0000 clock %d: limit\n" % (STEPS, STEPS)
     assert is_for_reply(rest, reply), after
-    _, asked = asking.beyond(LOOP, b"run %d\nback all\n" % STEPS, b"run %d" % STEPS)
+    _, asked = beyond(runner, LOOP, b"run %d\nback all\n" % STEPS, b"run %d" % STEPS)
     assert asked is not None and is_for_reply(asked, reply)

@@ -1,7 +1,5 @@
 """Texts that are cut at every byte, and a source whose every byte is replaced: the program against the model, and the status."""
 
-import pathlib
-
 import pytest
 
 from tests.hostile.inputs import BUNDLES, bundle, lines
@@ -38,13 +36,12 @@ def is_an_end(answer):
 
 
 @pytest.mark.parametrize("part", range(20))
-def test_cut(runner, place, part):
-    file = pathlib.Path(place, "source")
+def test_cut(runner, part):
     for name, text, source in [*texts()][part::20]:
         tried = [(model.run(text), runner.run(text))]
         if source is not None:
-            file.write_bytes(source)
-            tried.append((model.run_list(source), runner.run(b"", ["list", file])))
+            words = ["list", runner.file("source", source)]
+            tried.append((model.run_list(source), runner.run(b"", words)))
         for wanted, found in tried:
             assert found == wanted, name
             assert is_an_end(found), name

@@ -40,16 +40,12 @@ def test_endless(program, command):
     assert fed(command, program) == T6
 
 
-def test_endless_file(runner, place):
+def test_endless_file(runner):
     assert runner.run_on("/dev/zero") == T6
-    name = os.path.join(place, "long")
-    with open(name, "wb") as file:
+    with open(runner.place / "long", "w+b") as file:
         file.truncate(10 * BUNDLE)
-    with open(name, "rb") as file:
-        answer = subprocess.run([runner.program], stdin=file, capture_output=True, timeout=SECONDS)
-        taken = os.lseek(file.fileno(), 0, os.SEEK_CUR)
-    assert (answer.stdout, answer.stderr, answer.returncode) == T6
-    assert taken == BUNDLE + 1
+        assert runner.run(file.fileno()) == T6
+        assert os.lseek(file.fileno(), 0, os.SEEK_CUR) == BUNDLE + 1
 
 
 @pytest.mark.parametrize("words, wanted", [
@@ -178,11 +174,11 @@ def refused_decks():
         yield fault.decode(), bundle(END, b"", b"\n" * before + deck), refused_deck(line, fault)
 
 
-def by_files(place):
-    """The same of files that the command line names: words, what is wanted. A part at its limit is read, and one byte over it is refused."""
-    source, script, deck, zero = (os.path.join(place, name) for name in ("source", "script", "deck", "long"))
-    for name, text in [(source, END), (script, b"show clock\n"), (deck, b"\n")]:
-        pathlib.Path(name).write_bytes(text)
+def by_files(runner):
+    """The same of files that the command line names: words, what is wanted. A part at its limit is
+    read, and one byte over it is refused."""
+    texts = (("source", END), ("script", b"show clock\n"), ("deck", b"\n"))
+    source, script, deck = (runner.file(*text) for text in texts)
     long_source = (b"line 1: A16 source too long\n", b"", 1)
     clock = (b"clock 0\n", b"", 0)
     yield ["list", "/dev/zero"], long_source
@@ -194,13 +190,13 @@ def by_files(place):
         for part, text, wanted in [
                 (0, filled(END, SOURCE + over), long_source), (1, filled(b"show clock\n", SCRIPT + over), T6),
                 (2, filled(b"", DECK + over, b" "), refused_deck(1, b"K9 deck too long"))]:
-            pathlib.Path(zero).write_bytes(text)
-            files = [zero if part == k else name for k, name in enumerate((source, script, deck))]
-            yield ["debug", files[0], files[1], "--devices", files[2]], wanted if over else clock
+            files = [source, script, deck]
+            files[part] = runner.file("long", text)
+            yield ["debug", *files[:2], "--devices", files[2]], wanted if over else clock
 
 
-def test_files(runner, place):
-    for words, wanted in by_files(place):
+def test_files(runner):
+    for words, wanted in by_files(runner):
         assert runner.run(b"", words) == wanted, words
 
 

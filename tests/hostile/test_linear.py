@@ -3,7 +3,6 @@
 Of a text of one, two and four lengths the step from two to four takes twice the step from one to two. Each command has a bound of its instructions and of the
 bytes that it asks for, after ten, a thousand and a million changes."""
 
-import os
 import pathlib
 import re
 import shutil
@@ -19,17 +18,11 @@ pytestmark = pytest.mark.skipif(not shutil.which("valgrind"), reason="what count
 MOST = 2.2
 
 
-def instructions(program, place, text):
-    name = os.path.join(place, "in")
-    with open(name, "wb") as file:
-        file.write(text)
-    with open(name, "rb") as file:
-        told = subprocess.run(["valgrind", "--tool=callgrind", "--callgrind-out-file=/dev/null", program], stdin=file, stdout=subprocess.DEVNULL,
-                              stderr=subprocess.PIPE).stderr.decode()
-    collected = re.search(r"Collected : (\d+)", told)
-    if not collected:
-        raise SystemExit("callgrind counted nothing: " + told)
-    return int(collected[1])
+def instructions(runner, text):
+    command = ["valgrind", "--tool=callgrind", "--callgrind-out-file=/dev/null", runner.program]
+    with open(runner.place / runner.file("in", text), "rb") as file:
+        ran = subprocess.run(command, stdin=file, capture_output=True)
+    return int(re.search(rb"Collected : (\d+)", ran.stderr)[1])
 
 
 def tape(blocks):
@@ -64,20 +57,19 @@ MISTAKES = [("run N", "run 1", 1000), ("step N", "step", 1000), ("back N", "back
 
 
 @pytest.mark.parametrize("name, text, length", TEXTS, ids=[row[0] for row in TEXTS])
-def test_text(program, place, name, text, length):
-    one, two, four = (instructions(program, place, text(length * times)) for times in (1, 2, 4))
+def test_text(runner, name, text, length):
+    one, two, four = (instructions(runner, text(length * times)) for times in (1, 2, 4))
     assert four - two <= MOST * (two - one)
 
 
 @pytest.mark.parametrize("size", [*SIZES[:2], pytest.param(SIZES[2], marks=pytest.mark.full)])
-def test_table(program, place, refuse, size):
+def test_table(runner, size):
     """What each command takes, by callgrind and by a library that notes what is asked for, each up to the write of its reply."""
-    pathlib.Path(place, "source").write_bytes(SOURCE)
     rows = [line for line in pathlib.Path(HERE, "costs.txt").read_text().splitlines() if line[0] != "#"]
     costs = [line[2:] for line in rows if line[0] == " " or size < SIZES[-1]]
     names = [re.match(r"(.*?)  ", line)[1] for line in costs]
     script = "".join(name.replace("N", str(size)).replace("M", str(size - 1)) + "\n" for name in names).encode()
-    found = zip(names, counted(program, place, script), asked(program, place, script, refuse))
+    found = zip(names, counted(runner, script), asked(runner, script))
     taken, allowed = {}, {}
     for line, (name, *took) in zip(costs, found):
         most, more, bytes_most, bytes_more = map(int, line.split()[-4:])
@@ -87,17 +79,26 @@ def test_table(program, place, refuse, size):
         assert any(times * some > bound for some, bound in zip(taken[other], allowed[name])), f"{name} by {other} is not seen"
 
 
-def counted(program, place, script):
+def words_of(runner):
+    return ["debug", str(runner.place / runner.file("source", SOURCE))]
+
+
+def counted(runner, script):
     """The instructions between each write and the next."""
-    subprocess.run(["valgrind", "--tool=callgrind", "--callgrind-out-file=%s/part" % place, "--dump-before=write", program, "debug", "%s/source" % place], input=script, capture_output=True)
+    command = ["valgrind", "--tool=callgrind", "--callgrind-out-file=part", "--dump-before=write"]
+    command += [runner.program, *words_of(runner)]
+    subprocess.run(command, input=script, cwd=runner.place, capture_output=True)
     for k in range(1, script.count(b"\n") + 1):
-        yield int(re.search(r"^summary: (\d+)", pathlib.Path(f"{place}/part.{k}").read_text(), re.M)[1])
+        part = (runner.place / f"part.{k}").read_text()
+        yield int(re.search(r"^summary: (\d+)", part, re.M)[1])
 
 
-def asked(program, place, script, library):
+def asked(runner, script):
     """The bytes that are asked for between each write and the next."""
-    told = pathlib.Path(place, "asked")
-    subprocess.run([program, "debug", "%s/source" % place], input=script, capture_output=True, env={**os.environ, "LD_PRELOAD": library, "ASKED_TO": told, "CALLED_TO": told})
-    parts = re.split(r"write .*\n", told.read_text())
-    told.unlink()
-    return [sum(map(int, re.findall(r"^\d+$", part, re.M))) for part in parts]
+    sums = [0]
+    for words in runner.behind("ASKED_TO", script, words_of(runner), called_to="log")[1]:
+        if words[0] == "write":
+            sums.append(0)
+        elif words[0] != "read":
+            sums[-1] += int(words[0])
+    return sums

@@ -8,8 +8,6 @@ On a program of the repository's own (tests/hostile/again) the call that was ref
 refused."""
 
 import itertools
-import os
-import pathlib
 import re
 
 import pytest
@@ -26,48 +24,37 @@ FIRST = EACH["the first example"].source
 QUICK = ("the first example", "a source with characters")
 
 
-class Refusing:
-    """A program whose allocation of one number is refused."""
-
-    def __init__(self, runner, place, library):
-        self.runner, self.library = runner, library
-        self.told = os.path.join(place, "refused")
-
-    def run(self, n, text, words=(), more=1):
-        """The answer with allocation n refused, and as many after it as are wanted, and whether it was asked for."""
-        if os.path.exists(self.told):
-            os.unlink(self.told)
-        answer = self.runner.run(text, words, {"LD_PRELOAD": self.library, "REFUSED_ALLOCATION": str(n), "REFUSED_COUNT": str(more),
-                                               "REFUSED_TO": self.told})
-        return answer, os.path.exists(self.told)
-
-    def in_turn(self, text, words=(), counts=(1,)):
-        """Each number, the answer where so many allocations from it on are refused, and whether it was asked for; one that was not ends them."""
-        for n, more in itertools.product(range(1, MOST), counts):
-            answer, refused = self.run(n, text, words, more)
-            yield n, answer, refused
-            if not refused:
-                return
+def refused_at(runner, n, text, words=(), more=1):
+    """The answer with allocation n refused, and as many after it as are wanted, and whether it was
+    asked for."""
+    numbers = {"refused_allocation": n, "refused_count": more}
+    answer, _ = runner.behind("REFUSED_TO", text, words, **numbers)
+    return answer, (runner.place / "log").exists()
 
 
-@pytest.fixture
-def refusing(runner, place, refuse):
-    return Refusing(runner, place, refuse)
+def in_turn(runner, text, words=(), counts=(1,)):
+    """Each number, the answer where so many allocations from it on are refused, and whether it was
+    asked for; one that was not ends them."""
+    for n, more in itertools.product(range(1, MOST), counts):
+        answer, refused = refused_at(runner, n, text, words, more)
+        yield n, answer, refused
+        if not refused:
+            return
 
 
 @pytest.mark.parametrize("how", ["bundle", "list", "debug"])
 @pytest.mark.parametrize("name", [*QUICK, *(pytest.param(name, marks=pytest.mark.full) for name in EACH if name not in QUICK)])
-def test_refused(refusing, place, name, how):
+def test_refused(runner, name, how):
     """The answer is T1 and a beginning of what is due, as long as an allocation is refused."""
     source, deck, script, _ = EACH[name]
     text, words = bundle(source, script, deck), ()
     if how != "bundle":
-        files = [os.path.join(place, part) for part in ("source", "script", "deck")]
-        for file, part in zip(files, (source, script, deck or b"")):
-            pathlib.Path(file).write_bytes(part)
-        text, words = b"", ("list", files[0]) if how == "list" else ("debug", *files[:2], "--devices", files[2])
-    whole = refusing.runner.run(text, words)
-    for n, answer, refused in refusing.in_turn(text, words, (1, MOST)):
+        parts = {"source": source, "script": script, "deck": deck or b""}
+        files = [runner.file(*part) for part in parts.items()]
+        words = ("debug", *files[:2], "--devices", files[2]) if how == "debug" else ("list", files[0])
+        text = b""
+    whole = runner.run(text, words)
+    for n, answer, refused in in_turn(runner, text, words, (1, MOST)):
         if not refused:
             assert answer == whole, n
             return
@@ -97,16 +84,16 @@ def again(request, place):
     program = request.config.getoption("--again")
     if not program:
         pytest.skip("the program that asks again, which --again names")
-    return Refusing(Runner(os.path.abspath(program), place), place, request.getfixturevalue("refuse"))
+    return Runner(program, place)
 
 
 @pytest.mark.parametrize("how, source, deck, script", again_cases())
 def test_made_again(again, how, source, deck, script):
     """A program that makes the call again replies as ever, and one refusal left what is promised."""
     text = input_of(how, source, deck, script)
-    whole = again.runner.run(text)
+    whole = again.run(text)
     assert whole[1:] == (b"", 0)
-    for n, answer, refused in again.in_turn(text):
+    for n, answer, refused in in_turn(again, text):
         if not refused:
             assert answer == whole, n
             return
@@ -154,9 +141,9 @@ def test_stages(again):
     line = "changes %d kept %d loc %d clock %d\n"
     rows = [(0, 0, 0, 0), (1, 3, 1, 1), (2, 7, 2, 2), (3, 10, 3, 4), (4, 12, 4, 14)]
     kept = "".join(line % rows[k] for k in (1, 2, 3, 4, 3, 2, 1, 0, 1, 2, 3, 4)).encode()
-    assert again.runner.run(input_of(b"journal", FIRST, b"", b"\n" * 4)) == (kept, b"", 0)
+    assert again.run(input_of(b"journal", FIRST, b"", b"\n" * 4)) == (kept, b"", 0)
     met = set()
-    for n, answer, _ in again.in_turn(input_of(b"on", FIRST, b"", b"step 4\nshow clock\n")):
+    for n, answer, _ in in_turn(again, input_of(b"on", FIRST, b"", b"step 4\nshow clock\n")):
         match = re.fullmatch(rb"command 0 0 (\d+) (\d+) (\d+)\n", answer[1])
         if not match:
             continue
@@ -165,11 +152,11 @@ def test_stages(again):
         assert tuple(place_and_clock) == rows[k][2:], (k, n)
         if k < 4:
             # the same allocation is refused where the script has as many bytes
-            answer, _ = again.run(n, input_of(b"on", FIRST, b"", b"step 4\nstep %d\n**" % (4 - k)))
+            answer, _ = refused_at(again, n, input_of(b"on", FIRST, b"", b"step 4\nstep %d\n**" % (4 - k)))
             assert answer[0] == b"ran %d to 0004 clock 14: halt\n" % (4 - k), n
     assert 0 in met  # before its first step
     whole = b"ran 4 to 0004 clock 14: halt\n"
-    for n, answer, _ in again.in_turn(input_of(b"on", FIRST, b"", b"step 4\nback 2\nshow clock\n")):
+    for n, answer, _ in in_turn(again, input_of(b"on", FIRST, b"", b"step 4\nback 2\nshow clock\n")):
         match = re.fullmatch(rb"command 1 4 (\d+) (\d+) (\d+)\n", answer[1])
         if match:
             assert (match.groups(), answer[0]) == ((b"2", b"2", b"2"), whole + b"clock 2\n"), n

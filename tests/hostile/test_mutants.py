@@ -1,13 +1,15 @@
 """Bundles that are the examples and those of tests/runs/ with mistakes in them: bits flipped, lines doubled, cut, and spliced. The program against
 the model."""
 
-import pathlib
 import random
+import re
 import signal
 
 import pytest
 
-from tests.hostile.inputs import TOP, bundle, lines
+from tests import TOP
+from tests.drawing import altered
+from tests.hostile.inputs import bundle, lines
 from tests.hostile.test_cuts import DECK, GREETED, HELLO, READ, READS
 from tests.model import bundle as model
 from tests.runs.bundles import bundles
@@ -18,9 +20,11 @@ EDGES = [b"0", b"1", b"-1", b"63", b"64", b"999", b"1000", b"3999", b"4000", b"4
          b"step 1000", b"back all", b"forth 9", b"until", b"back until A", b"run 100 until cell 100",
          b"trace 9", b"show counts", b"show diff 1", b"\"", b"=", b",", b"(", b"*", b"\r", b"\t", b"\x00", b"\xff"]
 
+PIECES = [*(bytes([one]) for one in b"\x00\n\"?\xff %*=-+/:,()0129ABFHhX\r\t"), *EDGES]
+
 
 def originals():
-    texts = [file.read_bytes() for file in sorted(pathlib.Path(TOP, "examples").glob("*.mixal"))] + [text.encode() for _, text, _ in bundles()]
+    texts = [file.read_bytes() for file in sorted(TOP.glob("examples/*.mixal"))] + [text.encode() for _, text, _ in bundles()]
     # and every kind of unit
     units = lines(*("show unit %d" % unit for unit in (0, 8, 16, 17, 18, 19, 20)))
     writes = lines(" IN 200(16)", " OUT 200(17)", " OUT 200(18)", " IOC 0(18)", " OUT 0(9)", " IN 0(0)", " JBUS *(19)", " OUT 0(19)", " IOC -1(0)", " HLT", " END 0")
@@ -30,27 +34,15 @@ def originals():
 def mutant(texts, seed, k):
     """Mutant k of a seed is the same as long as the examples are."""
     draw = random.Random("%s/%d" % (seed, k))
-    text = bytearray(draw.choice(texts))
+    text = draw.choice(texts)
     for _ in range(draw.choice((1, 1, 1, 2, 2, 3, 5, 8, 20))):
-        text = CHANGES[draw.randrange(len(CHANGES))](draw, text, texts)
-    return bytes(text)
-
-
-def flip(draw, text, texts):
-    if text:
-        text[draw.randrange(len(text))] ^= 1 << draw.randrange(8)
-    return text
-
-
-def byte(draw, text, texts):
-    if text:
-        text[draw.randrange(len(text))] = draw.choice(b"\x00\n\"?\xff %*=-+/:,()0129ABFHhX\r\t")
+        text = draw.choice(CHANGES)(draw, text, texts)
     return text
 
 
 def lines_changed(draw, text, texts):
     """A line doubled, left out, moved, or many times there."""
-    every = bytes(text).split(b"\n")
+    every = text.split(b"\n")
     at = draw.randrange(len(every))
     kind = draw.randrange(4)
     if kind == 0:
@@ -61,46 +53,41 @@ def lines_changed(draw, text, texts):
         every.insert(draw.randrange(len(every)), every.pop(at))
     else:
         every[at:at] = [every[at]] * draw.randrange(2, 60)
-    return bytearray(b"\n".join(every))
-
-
-def cut(draw, text, texts):
-    first, last = sorted((draw.randrange(len(text) + 1), draw.randrange(len(text) + 1)))
-    return [text[:last], text[:first] + text[last:]][draw.randrange(2)]
+    return b"\n".join(every)
 
 
 def spliced(draw, text, texts):
     other = draw.choice(texts)
     if draw.randrange(2):
-        return text[:draw.randrange(len(text) + 1)] + other[draw.randrange(len(other)):]
+        return text[: draw.randrange(len(text) + 1)] + other[draw.randrange(len(other)) :]
     # lines of the other one among its own
-    mine, every = bytes(text).split(b"\n"), other.split(b"\n")
+    mine, every = text.split(b"\n"), other.split(b"\n")
     first = draw.randrange(len(every))
     at = draw.randrange(len(mine) + 1)
     mine[at:at] = every[first:first + draw.randrange(1, 12)]
-    return bytearray(b"\n".join(mine))
+    return b"\n".join(mine)
 
 
 def word(draw, text, texts):
     """A word in place of another, at an edge."""
-    parts = bytes(text).split(b" ")
+    parts = text.split(b" ")
     parts[draw.randrange(len(parts))] = draw.choice(EDGES)
-    return bytearray(b" ".join(parts))
+    return b" ".join(parts)
 
 
 def number(draw, text, texts):
-    digits = [at for at, value in enumerate(text) if 48 <= value < 58]
+    digits = list(re.finditer(rb"\d+", text))
     if not digits:
         return text
-    first = last = draw.choice(digits)
-    while last < len(text) and 48 <= text[last] < 58:
-        last += 1
-    while first and 48 <= text[first - 1] < 58:
-        first -= 1
+    first, last = draw.choice(digits).span()
     return text[:first] + draw.choice(EDGES[:13]) + text[last:]
 
 
-CHANGES = [flip, byte, lines_changed, cut, spliced, word, number]
+def bytes_altered(draw, text, texts):
+    return altered(draw, text, PIECES)
+
+
+CHANGES = [*[bytes_altered] * 3, lines_changed, spliced, word, number]
 
 
 def ring(*_):

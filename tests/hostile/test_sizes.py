@@ -1,9 +1,5 @@
 """Calls that may answer out of memory, or be cut, each at its documented limit with memory enough: they do neither. What is due is worked out here, by the rules."""
 
-import pathlib
-
-import pytest
-
 from tests.adapter.frames import BODY, frame, messages, request
 from tests.hostile.inputs import bundle, lines
 from tests.hostile.test_limits import DECK, SCRIPT, SOURCE, filled, shown_block
@@ -65,12 +61,13 @@ def talk(runner, requests):
     return [answer.get("body") for answer in answers], (in_turn, refused, errors, status), [message for message in every if message["type"] != "response"]
 
 
-def test_dialogues(runner, elsewhere):
+def test_dialogues(runner):
     """Launches with texts at their limits, named and in the longest frame; the views after 11,000,000 changes; 70,000 requests."""
     texts = {"source": filled(b"", SOURCE - 23) + b"\n INCA 1\n JMP 0\n END 0\n", "devices": filled(b"", DECK - len(FULL) - 1, b" ") + b"\n" + FULL,
              "cards": b"".join((b"D" * 80).ljust(33553 + (k < 432)) + b"\n" for k in range(1000))}
     assert [*map(len, texts.values())] == [SOURCE, DECK, DECK]
-    write(texts)
+    for name, text in texts.items():
+        runner.file(name, text)
     files = ("launch", {"program": "source", "devices": "devices", "cards": "cards", "stopOnEntry": True})
     given = ("launch", {"stopOnEntry": True, **{name + "Text": text.decode() for name, text in texts.items()}})
     looks = [("configurationDone", {}), ("mix/program", {}), ("mix/units", {}), ("evaluate", {"expression": "show unit 15", "context": "repl"})]
@@ -98,18 +95,9 @@ def test_dialogues(runner, elsewhere):
     assert [event["body"]["text"] for event in events[2:]] == ["paused after 1000000 changes"] * 22
 
 
-def write(texts):
-    for name, text in texts.items():
-        pathlib.Path(name).write_bytes(text)
-
-
-@pytest.fixture
-def elsewhere(tmp_path, monkeypatch):
-    monkeypatch.chdir(tmp_path)
-
-
-def test_runs(runner, elsewhere):
+def test_runs(runner):
     for files, words, wanted in runs():
-        write(files)
+        for name, text in files.items():
+            runner.file(name, text)
         assert runner.run(files.get("in", b""), words.split()) == wanted, words
-    assert pathlib.Path("kept").read_bytes() == FULL
+    assert (runner.place / "kept").read_bytes() == FULL

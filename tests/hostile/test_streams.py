@@ -10,7 +10,7 @@ import threading
 
 import pytest
 
-from tests.hostile.inputs import bundle, lines
+from tests.hostile.inputs import bundle, lines, rows_of
 from tests.hostile.test_cuts import GREETED, HELLO
 from tests.model.program import SECONDS
 
@@ -62,34 +62,24 @@ def closed_pipe(program, name, taken):
         return begun, errors, child.wait(SECONDS)
 
 
-def test_calls(program, place, refuse):
+def test_calls(runner):
     """How often a read and a write are called, by a library in front of the C library's."""
-    told = os.path.join(place, "called")
-    name = os.path.join(place, "calls")
-
-    def run(stdin):
-        if os.path.exists(told):
-            os.unlink(told)
-        answer = subprocess.run([program], stdin=stdin, capture_output=True, timeout=SECONDS, env={**os.environ, "LD_PRELOAD": refuse, "CALLED_TO": told})
-        return (answer.stdout, answer.stderr, answer.returncode), pathlib.Path(told).read_text().splitlines()
-
     # nothing is there to be read yet, and the writer is still there: it is no end, and to try again
     # would be to wait
     ours, theirs = os.pipe2(os.O_NONBLOCK)
-    assert run(ours) == ((b"", T2, 2), ["read -1"])
+    assert runner.behind("CALLED_TO", ours) == ((b"", T2, 2), [["read", "-1"]])
     os.write(theirs, TEXT)
-    assert run(ours) == ((b"", T2, 2), ["read %d" % len(TEXT), "read -1"])
+    calls = [["read", str(len(TEXT))], ["read", "-1"]]
+    assert runner.behind("CALLED_TO", ours) == ((b"", T2, 2), calls)
     os.close(ours)
     os.close(theirs)
     # 22 bytes a cell, 1,200,036 bytes a full tape
     tape = (b" ".join([b"+0102030405"] * 100) + b"\n") * 1000
     text = bundle(b" END 0\n", lines("show cells 0 2978", "show unit 0", "show all"), b"".join(b"%%UNIT %d\n" % unit + tape for unit in range(4)))
-    pathlib.Path(name).write_bytes(text)
-    with open(name, "rb") as file:
-        (output, _, status), called = run(file)
+    (output, _, status), called = runner.behind("CALLED_TO", text)
     sizes = [2979 * 22, 1200036, len(output) - 2979 * 22 - 1200036]
     # replies of 64 KiB, of 1 MB and of over 4 MiB are each written by one call
-    assert [line for line in called if line.startswith("write")] == ["write %d" % size for size in sizes]
+    assert [int(size) for call, size in called if call == "write"] == sizes
     assert status == 0 and sizes[2] > 4 << 20
 
 
@@ -132,67 +122,25 @@ def test_full_disk(program, place):
 
 READS = b" IN 100(16)\n END 0\n"
 STEPS = b" HLT\n END 0\n%SCRIPT\nstep\n"
-NO_END = b"line 1: A13 no END\n"
 # The files of the plans below; the folder is one that a system opens, but that cannot be read.
 FILES = {"read.mixal": READS, "refused.mixal": b"", "step.txt": b"step\n", "card.deck": b"%UNIT 16\nA CARD\n"}
-# Words, standard input, and then the status, what is written and what is told of a fault of the
-# tool.
-PLANS = [
-    ("", STEPS, 0, b"ran 1 to 0001 clock 10: halt\n", b""),
-    ("dap", b"Content-Length: 2\r\n", 2, b"", b"T7 input cut"),
-    ("list read.mixal", b"", 0, lines("0000  + 01 36 00 16 36      1   IN 100(16)", "0000                        2   END 0", "symbols 0"), b""),
-    ("list refused.mixal", b"", 1, NO_END, b""),
-    ("list -", READS, 0, lines("0000  + 01 36 00 16 36      1   IN 100(16)", "0000                        2   END 0", "symbols 0"), b""),
-    ("debug read.mixal - --devices card.deck", b"step\n", 0, b"ran 1 to 0001 clock 1: limit\n", b""),
-    ("debug read.mixal step.txt --devices -", FILES["card.deck"], 0, b"ran 1 to 0001 clock 1: limit\n", b""),
-    ("debug read.mixal step.txt --devices card.deck", b"", 0, b"ran 1 to 0001 clock 1: limit\n", b""),
-    ("debug read.mixal step.txt", b"", 3, b"ran 0 to 0000 clock 0: fault M11 no block\n", b""),
-    ("debug refused.mixal step.txt", b"", 1, NO_END, b""),
-    ("debug read.mixal step.txt --devices read.mixal", b"", 2, b"", b"T5 deck refused at line 1: K1 bad header"),
-    ("list none", b"", 2, b"", b"T4 not opened: none" + NO_FILE),
-    ("list ''", b"", 2, b"", b"T4 not opened: " + NO_FILE),
-    ("list folder", b"", 2, b"", b"T4 not opened: folder" + FOLDER),
-    # the first that cannot be opened, and nothing is read: not even a source that is refused
-    ("debug no_a no_b --devices no_c", b"", 2, b"", b"T4 not opened: no_a" + NO_FILE),
-    ("debug refused.mixal no_b --devices no_c", b"", 2, b"", b"T4 not opened: no_c" + NO_FILE),
-    ("debug refused.mixal step.txt --devices no_c", b"", 2, b"", b"T4 not opened: no_c" + NO_FILE),
-    ("debug refused.mixal no_b --devices card.deck", b"", 2, b"", b"T4 not opened: no_b" + NO_FILE),
-    ("debug refused.mixal no_b", b"", 2, b"", b"T4 not opened: no_b" + NO_FILE),
-    ("debug read.mixal folder", b"", 2, b"", b"T4 not opened: folder" + FOLDER)]
 
 
-@pytest.mark.parametrize("words, text, status, output, told", PLANS)
+@pytest.mark.parametrize("words, text, status, output, told", rows_of("plan"))
 def test_plan(program, tmp_path, words, text, status, output, told):
     """What a plan comes to, and the same where what is told cannot be written."""
     (tmp_path / "folder").mkdir()
     for name, contents in FILES.items():
         (tmp_path / name).write_bytes(contents)
     for errors, more in ((subprocess.PIPE, told and b"mixrev: %s\n" % told), (open("/dev/full", "wb"), None)):
-        ran = subprocess.run([program, *shlex.split(words)], input=text, stdout=subprocess.PIPE, stderr=errors, cwd=tmp_path, timeout=SECONDS)
-        assert (ran.returncode, ran.stdout, ran.stderr) == (status, output, more)
+        ran = subprocess.run([program, *shlex.split(words.decode())], input=text, stdout=subprocess.PIPE, stderr=errors, cwd=tmp_path, timeout=SECONDS)
+        assert (ran.returncode, ran.stdout, ran.stderr) == (int(status), output, more)
 
 
 def test_name(program):
     """The program's own name is no subcommand."""
     ran = subprocess.run(["list"], executable=program, input=STEPS, capture_output=True, timeout=SECONDS)
     assert (ran.stdout, ran.stderr, ran.returncode) == (b"ran 1 to 0001 clock 10: halt\n", b"", 0)
-
-
-# A command of the shell, in which $0 is the program and $1 a bundle, and what it comes to; None is what is due.
-COMMANDS = [
-    ('"$0" <"$1" >/dev/full', (b"", T3, 2)),
-    ('"$0" <"$1" >/dev/full 2>/dev/full', (b"", b"", 2)),
-    ('"$0" <"$1" 2>/dev/full', (None, b"", 0)),
-    ('"$0" <"$1" >&-', (b"", T3, 2)),
-    ('"$0" <"$1" >&- 2>&-', (b"", b"", 2)),
-    ('"$0" <&-', (b"", T2, 2)),
-    ('"$0" <&- >&- 2>&-', (b"", b"", 2)),
-    ('"$0" </', (b"", T2, 2)),
-    ('"$0" <"$1" 1</dev/null', (b"", T3, 2)),
-    ('"$0" 0>>"$1.empty"', (b"", T2, 2)),
-    ('"$0" </dev/null', (b"line 1: A13 no END\n", b"", 1)),
-    ('cp "$1" "$1.2"; exec <"$1.2"; rm "$1.2"; "$0"', (None, b"", 0)),
-]
 
 
 @pytest.fixture
@@ -206,12 +154,13 @@ def named(place):
     return written
 
 
-@pytest.mark.parametrize("command, wanted", COMMANDS)
-def test_command(program, named, command, wanted):
+@pytest.mark.parametrize("command, output, errors, status", rows_of("shell"))
+def test_command(program, named, command, output, errors, status):
     name = named()
-    output = due(program, name)
-    assert output.startswith(b"ran 2 to 1002 clock 11: halt\n")
-    assert shell(command, program, name) == (output if wanted[0] is None else wanted[0], *wanted[1:])
+    whole = due(program, name)
+    assert whole.startswith(b"ran 2 to 1002 clock 11: halt\n")
+    wanted = whole if output == b"due" else output, errors, int(status)
+    assert shell(command.decode(), program, name) == wanted
 
 
 @pytest.mark.parametrize("taken", [0, 5, 4096, 70000])

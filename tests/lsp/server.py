@@ -1,12 +1,11 @@
 """A client of the language server: messages in frames, and texts that are counted as the protocol does."""
 import json
-import pathlib
 import re
 import subprocess
 
-from tests.adapter.frames import frame
+from tests import TOP
+from tests.adapter.frames import Channel
 
-TOP = pathlib.Path(__file__).resolve().parents[2]
 ENDS = re.compile("\r\n|\n|\r")
 
 
@@ -16,47 +15,40 @@ def sources():
         yield str(path), path.read_bytes().decode()
 
 
-class Client:
+class Client(Channel):
     """Speaks with `PROGRAM lsp`; `encoding` is utf-8, utf-16 or utf-32."""
 
     def __init__(self, command, encoding=None):
-        self.process = subprocess.Popen(command, stdin=subprocess.PIPE, stdout=subprocess.PIPE)
+        super().__init__(command)
         self.asked = 0
         self.encoding = encoding or "utf-16"
         general = {"general": {"positionEncodings": [encoding]}} if encoding else {}
         self.abilities = self.ask("initialize", {"processId": None, "rootUri": None, "capabilities": general})
         self.tell("initialized", {})
 
-    def send(self, message):
-        self.process.stdin.write(frame(json.dumps(message).encode()))
-        self.process.stdin.flush()
+    def tell(self, method, params, **more):
+        message = {"jsonrpc": "2.0", "method": method, "params": params, **more}
+        self.send(json.dumps(message).encode())
 
     def hear(self):
-        length = None
-        while (line := self.process.stdout.readline()) not in (b"\r\n", b""):
-            name, value = line.split(b":")
-            if name.lower() == b"content-length":
-                length = int(value)
-        return json.loads(self.process.stdout.read(length)) if length is not None else None
-
-    def tell(self, method, params):
-        self.send({"jsonrpc": "2.0", "method": method, "params": params})
+        return json.loads(self.read_frame())
 
     def ask(self, method, params):
         """The result of a request, or its error."""
         self.asked += 1
-        self.send({"jsonrpc": "2.0", "id": self.asked, "method": method, "params": params})
+        self.tell(method, params, id=self.asked)
         answer = self.hear()
         assert answer["id"] == self.asked, answer
         return answer["result"] if "result" in answer else answer["error"]
 
     def open(self, uri, text, version=1):
-        self.tell("textDocument/didOpen",
-                  {"textDocument": {"uri": uri, "languageId": "mixal", "version": version, "text": text}})
+        document = {"uri": uri, "languageId": "mixal", "version": version, "text": text}
+        self.tell("textDocument/didOpen", {"textDocument": document})
         return self.hear()["params"]
 
     def change(self, uri, version, changes):
-        self.tell("textDocument/didChange", {"textDocument": {"uri": uri, "version": version}, "contentChanges": changes})
+        document = {"textDocument": {"uri": uri, "version": version}}
+        self.tell("textDocument/didChange", {**document, "contentChanges": changes})
         return self.hear()["params"]
 
     def at(self, method, uri, position, **more):
@@ -66,8 +58,7 @@ class Client:
         """Shuts the server down: its status."""
         self.ask("shutdown", None)
         self.tell("exit", None)
-        self.process.stdin.close()
-        return self.process.wait(20)
+        return super().end()
 
 
 def units(text, encoding):

@@ -6,6 +6,7 @@ import time
 import pytest
 
 from tests.adapter.frames import frame, sent
+from tests.drawing import altered
 from tests.lsp import server as client
 
 SOURCES = [text for _, text in client.sources()]
@@ -75,30 +76,13 @@ def talk(dice):
     return b"".join(frame(json.dumps({"jsonrpc": "2.0", **one}).encode()) for one in messages)
 
 
-def altered(dice, said):
-    """A talk with some of its bytes replaced, taken out, put in, or cut off."""
-    said = bytearray(said)
-    for _ in range(dice.choice([1, 1, 2, 5])):
-        if not said:
-            break
-        at, what = dice.randrange(len(said)), dice.random()
-        if what < 0.5:
-            said[at] = dice.choice([dice.randrange(256), said[at] ^ 1 << dice.randrange(8)])
-        elif what < 0.7:
-            del said[at : at + dice.choice([1, 1, 3, 30])]
-        elif what < 0.9:
-            pieces = b'0 9 - " } [ \r\n null 1e99'.split(b" ")
-            said[at:at] = dice.choice([*pieces, bytes([dice.randrange(256)])])
-        else:
-            del said[at:]
-    return bytes(said)
-
-
 @pytest.mark.parametrize("part", range(6))
 def test_altered_frames(program, request, dice, part):
     """The status is 0, or 2 with one line on standard error, or 1 where the talk says `exit`."""
     for _ in range((request.config.getoption("--examples") or 600) // 6):
-        said = altered(dice, talk(dice))
+        said = talk(dice)
+        for _ in range(dice.choice([1, 1, 2, 5])):
+            said = altered(dice, said, b'0 9 - " } [ \r\n null 1e99'.split(b" "))
         _, errors, status = sent([program, "lsp"], said)
         told = errors.startswith(b"mixrev: T") and errors.count(b"\n") == 1
         assert status == 2 and told or status in (0, 1) and not errors, said

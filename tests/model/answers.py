@@ -1,46 +1,32 @@
 """The answer for a single text, as README.md says."""
 
-from collections import namedtuple
-
 from tests.model.expressions import address, expression, w_value
 from tests.model.lines import read_line
 from tests.model.texts import Fault
 from tests.model.words import number_text
 
-# Kind L, E, W or A; here a word; op (C, normal F) for A, else None; names with a word each; text bytes.
-Request = namedtuple("Request", "kind here op names text")
 
-
-def written_bytes(text):
-    return text.hex() or "-"
+def shown(value):
+    """What is of a kind: a word, a symbol, a digit, or the bytes of a literal."""
+    kind, what = value
+    if kind in ("value", "alf"):
+        return f"{kind}:{number_text(what)}"
+    if kind == "literal":
+        return f"{kind}:{what.hex() or '-'}"
+    return f"{kind}:{what.decode() if isinstance(what, bytes) else what}"
 
 
 def of_line(line):
     if line is None:
         return "remark"
-    loc = "%s:%s" % (line.loc[0], shown(line.loc[1])) if line.loc else "-"
-    if line.op[0] == "machine":
-        op = "machine:%d:%d" % line.op[1:]
-    else:
-        op = line.op[0] + (":" + number_text(line.op[1]) if line.op[1:] else "")
-    return "code %s %s %s" % (loc, op, written_bytes(line.address))
+    loc = shown(line.loc) if line.loc else "-"
+    kind, *more = line.op
+    op = "machine:%d:%d" % tuple(more) if kind == "machine" else shown(line.op) if more else kind
+    return f"code {loc} {op} {line.address.hex() or '-'}"
 
 
-def shown(name):
-    return name.decode() if isinstance(name, bytes) else str(name)
-
-
-def of_operand(operand):
-    kind, what = operand.a
-    if kind == "value":
-        what = number_text(what)
-    elif kind == "literal":
-        what = written_bytes(what)
-    return "%s:%s %d %d" % (kind, shown(what), operand.index, operand.f)
-
-
-def answer(request):
-    kind, here, op, names, text = request
+def answer(kind, text, names, here, normal_f):
+    """Of a kind L, E, W or A, by names with a word each and a word for `*`; an A has a normal F."""
     try:
         if kind == "L":
             return of_line(read_line(text))
@@ -49,6 +35,7 @@ def answer(request):
             return "%s %d" % (number_text(word), used)
         if kind == "W":
             return number_text(w_value(text, names, here))
-        return of_operand(address(text, op[1], names, here))
+        a, index, f = address(text, normal_f, names, here)
+        return "%s %d %d" % (shown(a), index, f)
     except Fault as fault:
         return fault.number

@@ -188,9 +188,9 @@ def end(program, at, line):
 
 
 def second_pass(program):
-    places = [entry.place for entry in program.entries if entry.text[:1] == b"="]
-    for entry in program.entries:
-        program.words.append((entry.place, finished(program, entry, places)))
+    entries = program.entries
+    places = [entry.place for entry in entries if entry.text[:1] == b"="]
+    program.words = [(entry.place, finished(program, entry, places)) for entry in entries]
 
 
 def finished(program, entry, places):

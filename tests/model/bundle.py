@@ -1,6 +1,6 @@
 """A bundle: source, deck and script in one input; what the program writes for it, and its status."""
 
-from tests.model import assembler
+from tests.model.assembler import assemble
 from tests.model.commands import Session
 from tests.model.deck import read_deck
 from tests.model.listing import listing
@@ -27,12 +27,6 @@ def cut(text):
     return b"".join(parts[b"source"]), b"".join(parts[b"%DEVICES"]), b"".join(parts[b"%SCRIPT"])
 
 
-def program_of(source):
-    """The words with their places, the start, what the names in commands stand for, and the whole program."""
-    program = assembler.assemble(source)
-    return program.words, program.start, program.names, program
-
-
 def run(text, watch=None):
     """Standard output, standard error and the status of a bundle."""
     if len(text) > BUNDLE_BYTES:
@@ -54,7 +48,7 @@ def debug(text, script, named=None, watch=None):
 
 def execute(source, deck, script, watch=None):
     try:
-        words, start, names, program = program_of(source)
+        program = assemble(source)
     except Fault as fault:
         return ("line %d: %s\n" % (fault.line, fault.told())).encode(), b"", 1
     try:
@@ -63,14 +57,11 @@ def execute(source, deck, script, watch=None):
         return tool_fault(Fault("T5", more="%d: %s" % (fault.line, fault.told())))
     if len(script) > SCRIPT_BYTES:
         return tool_fault(Fault("T6"))
-    session = Session(World(words, start, units), names, watch, program)
-    replies, status = [], 0
-    for line in lines_of(script):
-        reply, accepted = session.command(line)
-        replies.append(reply)
-        if not accepted:
-            status = 3
-    return b"".join(replies), b"", status
+    world = World(program.words, program.start, units)
+    session = Session(world, program.names, watch, program)
+    told = [session.command(line) for line in lines_of(script)]
+    status = 0 if all(accepted for _, accepted in told) else 3
+    return b"".join(reply for reply, _ in told), b"", status
 
 
 def tool_fault(fault):

@@ -1,4 +1,6 @@
-"""The words of a command: numbers, expressions, W-values, places, lines, conditions. All of them are read before any is tested for its range."""
+"""The words of a command: numbers, expressions, W-values, places, lines, conditions.
+
+All of them are read before any is tested for its range."""
 
 from tests.model.expressions import expression, w_value
 from tests.model.operations import NAMES
@@ -56,13 +58,8 @@ def line_place(session, word):
     return min(later, key=lambda entry: entry.line).place
 
 
-def count(words, number):
-    if len(words) != number:
-        raise Fault("C2")
-
-
-def cells_between(session, words):
-    first, last = expression_in(session, words[1]), expression_in(session, words[2])
+def cells_between(session, first, last):
+    first, last = expression_in(session, first), expression_in(session, last)
     first, last = place_in_range(first), place_in_range(last)
     if first > last:
         raise Fault("C3")
@@ -73,32 +70,35 @@ def cells_between(session, words):
 
 
 def condition(session, words):
-    """The words behind `until`, conditions with OR between them: all read before one is tested for its range."""
+    """The words behind `until`, conditions with OR between them: all read before one is tested for
+    its range."""
     conditions = []
     while True:
         size = 2 if words[:1] and words[0] in OPERANDS else 1
         conditions.append(one_condition(session, words[:size]))
-        words = words[size:]
-        if not words:
-            return conditions
-        if words[0] != b"OR" or len(conditions) == MOST:
-            raise Fault("C2")
-        words = words[1:]
+        match words[size:]:
+            case []:
+                return conditions
+            case [b"OR", *words] if len(conditions) < MOST:
+                pass
+            case _:
+                raise Fault("C2")
 
 
 def one_condition(session, words):
-    if len(words) == 1 and words[0].decode("latin-1") in NAMES:
-        return ("register", words[0].decode())
-    if words in ([b"OVER"], [b"CMP"]):
-        return (words[0].decode().lower(), None)
-    if words == [b"CONFLICT"]:
-        return ("conflict", lambda: Conflicts(session))
-    if len(words) == 2 and words[0] in (b"CELL", b"LOC"):
-        word = expression_in(session, words[1])
-        return (words[0].decode().lower(), lambda: place_in_range(word))
-    if len(words) == 2 and words[0] == b"UNIT":
-        n = digits_of(words[1])
-        return ("unit", lambda: unit_in_range(n))
+    match [word.decode("latin-1") for word in words]:
+        case [register] if register in NAMES:
+            return ("register", register)
+        case ["OVER" | "CMP" as part]:
+            return (part.lower(), None)
+        case ["CONFLICT"]:
+            return ("conflict", lambda: Conflicts(session))
+        case ["CELL" | "LOC" as part, _]:
+            word = expression_in(session, words[1])
+            return (part.lower(), lambda: place_in_range(word))
+        case ["UNIT", _]:
+            n = digits_of(words[1])
+            return ("unit", lambda: unit_in_range(n))
     raise Fault("C2")
 
 

@@ -1,9 +1,12 @@
-"""The commands and their replies. The state is the loaded machine, the list of changes that stand, and those that `back` took away."""
+"""The commands and their replies. The state is the loaded machine, the list of changes done, and
+those that `back` took away."""
 
 from tests.model import history
-from tests.model.command_words import condition, conditions_in_range, count, digits_of, expression_in, line_place, place_in_range, w_value_in
-from tests.model.world import do, replay
+from tests.model.command_words import (
+    condition, conditions_in_range, digits_of, expression_in, line_place, place_in_range, w_value_in,
+)
 from tests.model.operations import NAMES
+from tests.model.world import do, replay
 from tests.model.pieces import words_of
 from tests.model.show import show
 from tests.model.texts import Fault
@@ -17,7 +20,7 @@ class Session:
         self.names = names  # of the program, with their words
         self.changes = []
         self.ahead = []  # what was taken back and may be done again, the next one first
-        self.watch = watch  # told the machine before each step, and the operation that was done or the fault
+        self.watch = watch  # gets the machine before each step, and the operation done or the fault
         self.faulted = False
         self.program = program  # for the sources and the symbols
 
@@ -64,25 +67,25 @@ class Session:
 
 
 def step(session, words, traces=False):
-    if len(words) > 1:
-        raise Fault("C2")
-    return ran(session, digits_of(words[0]) if words else 1, False, traces=traces)
+    match words:
+        case []:
+            return ran(session, 1, False, traces=traces)
+        case [word]:
+            return ran(session, digits_of(word), False, traces=traces)
+    raise Fault("C2")
 
 
 def trace(session, words):
     return step(session, words, traces=True)
 
 
-def is_until(words):
-    return words[:1] == [b"UNTIL"]
-
-
 def run(session, words):
-    if is_until(words[1:]):
-        limit, cond = digits_of(words[0]), condition(session, words[2:])
-        return ran(session, limit, True, cond)
-    count(words, 1)
-    return ran(session, digits_of(words[0]), True)
+    match words:
+        case [word]:
+            return ran(session, digits_of(word), True)
+        case [word, b"UNTIL", *words]:
+            return ran(session, digits_of(word), True, condition(session, words))
+    raise Fault("C2")
 
 
 def ran(session, limit, stops, cond=None, traces=False):
@@ -97,17 +100,17 @@ def ran(session, limit, stops, cond=None, traces=False):
         try:
             name = session.change(("step",))
             done += 1
-            if traces:
-                lines.append(history.told(len(session.changes), ("step",), before, session.world))
+            move = len(session.changes), ("step",), before, session.world
             if name == "HLT":
                 end = "halt"
-            elif cond and history.reached(cond, before, session.world, len(session.changes)):
+            elif cond and history.reached(cond, *move[2:], move[0]):
                 end = "until"
-                lines.append(history.told(len(session.changes), ("step",), before, session.world))
             elif stops and session.world.loc in session.world.breaks:
                 end = "break"
             elif done == limit:
                 end = "limit"
+            if traces or end == "until":
+                lines.append(history.told(*move))
         except Fault as fault:
             name = fault.number
             end = "fault " + fault.told()
@@ -118,17 +121,17 @@ def ran(session, limit, stops, cond=None, traces=False):
 
 
 def back(session, words):
-    if is_until(words):
-        line, number = history.back_until(session, words[1:])
-        return line + gone_back(session, number)
-    count(words, 1)
-    if words[0] == b"ALL":
-        number = len(session.changes)
-    elif words[0] == b"BREAK":
-        number = to_a_break(session)
-    else:
-        number = asked(words[0], session.changes)
-    return gone_back(session, number)
+    match words:
+        case [b"UNTIL", *words]:
+            line, number = history.back_until(session, words)
+            return line + gone_back(session, number)
+        case [b"ALL"]:
+            return gone_back(session, len(session.changes))
+        case [b"BREAK"]:
+            return gone_back(session, to_a_break(session))
+        case [word]:
+            return gone_back(session, asked(word, session.changes))
+    raise Fault("C2")
 
 
 def asked(word, changes):
@@ -147,7 +150,8 @@ def gone_back(session, number):
 
 
 def to_a_break(session):
-    """How many changes to take back, one at least, until the location has a breakpoint of the machine as it is then; or all."""
+    """How many changes to take back, one at least, until the location has a breakpoint of the
+    machine as it is then; or all."""
     world, left = session.loaded, 0
     for done, change in enumerate(session.changes):
         if world.loc in world.breaks:
@@ -157,13 +161,15 @@ def to_a_break(session):
 
 
 def forth(session, words):
-    if is_until(words):
-        line, number = history.forth_until(session, words[1:])
-        return line + gone_forth(session, number)
-    count(words, 1)
-    if words[0] == b"ALL":
-        return gone_forth(session, len(session.ahead))
-    return gone_forth(session, asked(words[0], session.ahead))
+    match words:
+        case [b"UNTIL", *words]:
+            line, number = history.forth_until(session, words)
+            return line + gone_forth(session, number)
+        case [b"ALL"]:
+            return gone_forth(session, len(session.ahead))
+        case [word]:
+            return gone_forth(session, asked(word, session.ahead))
+    raise Fault("C2")
 
 
 def gone_forth(session, number):
@@ -175,19 +181,22 @@ def gone_forth(session, number):
 
 
 def goto(session, words):
-    count(words, 1)
-    number, now = digits_of(words[0]), len(session.changes)
-    if number > now + len(session.ahead):
+    if len(words) != 1:
+        raise Fault("C2")
+    more = digits_of(words[0]) - len(session.changes)
+    if more > len(session.ahead):
         raise Fault("C4")
-    return gone_back(session, now - number) if number < now else gone_forth(session, number - now)
+    return gone_back(session, -more) if more < 0 else gone_forth(session, more)
 
 
 def place_of_break(session, words):
     """The cell of a line, or one that is given."""
-    if len(words) == 2 and words[0] == b"LINE":
-        return line_place(session, words[1])
-    count(words, 1)
-    return place_in_range(expression_in(session, words[0]))
+    match words:
+        case [b"LINE", word]:
+            return line_place(session, word)
+        case [word]:
+            return place_in_range(expression_in(session, word))
+    raise Fault("C2")
 
 
 def break_(session, words):
@@ -199,22 +208,24 @@ def clear(session, words):
 
 
 def set_(session, words):
-    change = None
-    if len(words) == 2 and words[0].decode("latin-1") in NAMES:
-        change = ("register", words[0].decode(), w_value_in(session, words[1]))
-    elif len(words) == 3 and words[0] == b"CELL":
-        place, word = expression_in(session, words[1]), w_value_in(session, words[2])
-        change = ("cell", place_in_range(place), word)
-    elif len(words) == 2 and words[0] == b"LOC":
-        change = ("loc", place_in_range(expression_in(session, words[1])))
-    elif len(words) == 2 and words[0] == b"OVER" and words[1] in (b"ON", b"OFF"):
-        change = ("over", words[1] == b"ON")
-    elif len(words) == 2 and words[0] == b"CMP" and words[1] in (b"L", b"E", b"G"):
-        change = ("cmp", words[1].decode())
-    if change is None:
-        raise Fault("C2")
+    match words:
+        case [b"CELL", place, word]:
+            place, word = expression_in(session, place), w_value_in(session, word)
+            change = ("cell", place_in_range(place), word)
+        case [b"LOC", place]:
+            change = ("loc", place_in_range(expression_in(session, place)))
+        case [b"OVER", b"ON" | b"OFF" as flag]:
+            change = ("over", flag == b"ON")
+        case [b"CMP", b"L" | b"E" | b"G" as sign]:
+            change = ("cmp", sign.decode())
+        case [name, word] if name.decode("latin-1") in NAMES:
+            change = ("register", name.decode(), w_value_in(session, word))
+        case _:
+            raise Fault("C2")
     return session.change_or_refuse(change)
 
 
-COMMANDS = {b"STEP": step, b"RUN": run, b"BACK": back, b"FORTH": forth, b"BREAK": break_, b"CLEAR": clear, b"SET": set_,
-            b"SHOW": show, b"GOTO": goto, b"TRACE": trace}
+COMMANDS = {
+    b"STEP": step, b"RUN": run, b"BACK": back, b"FORTH": forth, b"BREAK": break_, b"CLEAR": clear,
+    b"SET": set_, b"SHOW": show, b"GOTO": goto, b"TRACE": trace,
+}

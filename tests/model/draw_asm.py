@@ -1,6 +1,7 @@
 """Random sources for the whole assembler, towards its edges and faults."""
 
 from tests.model import draw_text as texts
+from tests.model.draw_machine import either
 from tests.model.draw_text import some, with_ends, wrong_line
 from tests.model.lines import OPERATIONS
 
@@ -12,6 +13,11 @@ EDGES = [0, 1, 63, 64, 4000, 4094, 4095, 4095, 4096, 4096, 4097, 5000, 8192, 262
 PLACES = b"0 0 0 0 1 1 2 5 10 30 100 100 100 105 1000 1000 3990 3990 3996 3998 3999 4000 -0 *-1 *-1 *-2 *+1 *+3 *".split()
 WINDOWS = [(0, 40), (95, 130), (995, 1020), (3980, 3999)]
 FIELDS = b"0:5 1:5 0:2 3:3 4:4 5:5 1:1 0:0 4:5 1:3 5 8 36".split()
+LITERALS = b"3 3 -1 0 -0 5(0:2) 1(1:1),2(5:5) * *-1".split()
+OPERATORS = COMMON, COMMON, MACHINE
+ALFS = b" AB|  ABCDE| MIXAL|  \"A B\" x|   A|| \"\"| \tA~[#'|  TOO LONG".split(b"|")
+NOTHING = (b"", b" ", b"*", b"* any ?\xff", b"\t", b"* END 0")
+ALONE, BEHIND_ALONE = (b"HLT", b"NUM", b"CHAR"), (b"halt ?\xff", b"5", b"-1", b"*", b"x")
 AT_THE_END = b"""ORIG 4000/ORIG 3999/ORIG 3998/LDA =Q=/LDA =1(9)=/LDA =7=/JMP 7F/JMP NOWHERE/LDA =NOWHERE=/JMP 7F/JMP NOWHERE2/LDA =*=""".split(b"/")
 
 
@@ -41,16 +47,11 @@ class Draft:
 
     def loc(self):
         r = self.r
-        kind = r.randrange(20)
-        if kind < 9:
-            return b""
-        if kind < 13:
-            return self.local_loc()
         waiting = [name for name in self.used if name not in self.defined]
         free = [name for name in NAMES if name not in self.defined]
-        if waiting and kind < 18:
-            return self.new(r.choice(waiting))
-        return self.new(r.choice(free)) if free else b""
+        new = lambda names: self.new(r.choice(names)) if names else b""
+        ways = (5, lambda: new(waiting or free), 2, lambda: new(free))
+        return either(r, 9, lambda: b"", 4, self.local_loc, *ways)
 
     def new(self, name):
         self.defined.append(name)
@@ -72,14 +73,14 @@ class Draft:
     def known(self):
         """An atom that has a value at this line."""
         r = self.r
-        kind = r.randrange(8)
-        if kind < 2 and self.defined:
-            return texts.folded(r, r.choice(self.defined))
-        if kind < 4 and self.back:
-            return b"%d%s" % (r.choice(self.back + self.own[:r.randrange(12) == 0]), r.choice(b"B B b".split()))
-        if kind == 4:
-            return b"*"
-        return b"%d" % r.choice(SMALL)
+        back = self.back + self.own[: r.randrange(12) == 0]
+        return either(
+            r,
+            *(2 * bool(self.defined), lambda: texts.folded(r, r.choice(self.defined))),
+            *(2 * bool(self.back), lambda: b"%d%s" % (r.choice(back), r.choice((b"B", b"B", b"b")))),
+            *(1, lambda: b"*"),
+            *(3, lambda: b"%d" % r.choice(SMALL)),
+        )
 
     def expression(self):
         r = self.r
@@ -111,27 +112,19 @@ class Draft:
 
     def literal(self):
         r = self.r
-        kind = r.randrange(8)
-        if kind < 5:
-            return b"=%s=" % r.choice((b"3", b"3", b"-1", b"0", b"-0", b"5(0:2)", b"1(1:1),2(5:5)", b"*", b"*-1"))
-        if kind < 7 and self.back:
-            return b"=%dB=" % r.choice(self.back)
-        name = r.choice(self.defined or [b"9"])  # a literal is read at END: its symbols may be defined later
-        return b"=%s=" % texts.folded(r, name)
+        name = r.choice(self.defined or [b"9"])  # what a literal names may be defined later
+        return b"=%s=" % either(
+            r,
+            *(5, lambda: r.choice(LITERALS)),
+            *(2 * bool(self.back), lambda: b"%dB" % r.choice(self.back)),
+            *(1, lambda: texts.folded(r, name)),
+        )
 
     def address(self):
         r = self.r
-        kind = r.randrange(20)
-        if kind < 6:
-            a = self.ahead_name()
-        elif kind < 9:
-            a = self.literal()
-        elif kind < 11:
-            a = b""
-        elif kind < 15:
-            a = self.known()
-        else:
-            a = b"%s%d" % (r.choice((b"", b"", b"-")), r.choice(SMALL))
+        number = lambda: b"%s%d" % (r.choice((b"", b"", b"-")), r.choice(SMALL))
+        ways = (6, self.ahead_name, 3, self.literal, 2, lambda: b"", 4, self.known, 5, number)
+        a = either(r, *ways)
         if r.randrange(5) == 0:
             a += b"," + r.choice(b"1 2 6 0 -0 2+4".split())
         if r.randrange(5) == 0:
@@ -142,45 +135,34 @@ class Draft:
 
     def line(self):
         r = self.r
-        kind = r.randrange(30)
-        if kind < 15:
-            loc = self.loc()
-            self.say(loc, r.choice(COMMON if r.randrange(3) else MACHINE), self.address())
-        elif kind < 19:
-            loc = self.loc() or self.loc()
-            value = self.w_value() if r.randrange(3) else b"%s%d" % (r.choice((b"", b"-")), r.choice(EDGES[:8]))
-            self.say(loc, b"EQU", value)
-        elif kind < 22:
-            self.say(self.loc(), b"ORIG", r.choice(PLACES))
-        elif kind < 25:
-            self.say(self.loc(), b"CON", self.w_value())
-        elif kind < 27:
-            self.say(self.loc(), b"ALF", r.choice((b" AB", b"  ABCDE", b" MIXAL", b'  "A B" x', b"   A", b"", b' ""', b" \tA~[#'",
-                                                   b"  TOO LONG")))
-        elif kind < 29:
-            self.lines.append(r.choice((b"", b" ", b"*", b"* any ?\xff", b"\t", b"* END 0")))
-        else:
-            self.say(b"", r.choice((b"HLT", b"NUM", b"CHAR")), r.choice((b"halt ?\xff", b"5", b"-1", b"*", b"x")))
+        edge = lambda: b"%s%d" % (r.choice((b"", b"-")), r.choice(EDGES[:8]))
+        value = lambda: self.w_value() if r.randrange(3) else edge()
+        either(
+            r,
+            *(15, lambda: self.say(self.loc(), r.choice(r.choice(OPERATORS)), self.address())),
+            *(4, lambda: self.say(self.loc() or self.loc(), b"EQU", value())),
+            *(3, lambda: self.say(self.loc(), b"ORIG", r.choice(PLACES))),
+            *(3, lambda: self.say(self.loc(), b"CON", self.w_value())),
+            *(2, lambda: self.say(self.loc(), b"ALF", r.choice(ALFS))),
+            *(2, lambda: self.lines.append(r.choice(NOTHING))),
+            *(1, lambda: self.say(b"", r.choice(ALONE), r.choice(BEHIND_ALONE))),
+        )
 
     def end(self):
         r = self.r
-        kind = r.randrange(12)
-        loc = b"" if kind < 6 else self.loc()
-        if kind in (6, 7) and self.ahead:
-            loc = self.dH(r.choice(self.ahead))
+        ahead = lambda: self.dH(r.choice(self.ahead)) if self.ahead else self.loc()
+        loc = either(r, 6, lambda: b"", 2, ahead, 4, self.loc)
         if r.randrange(12) and self.ahead:  # dF that no dH meets: mostly mended before END
             for digit in sorted(set(self.ahead)):
                 self.say(self.dH(digit), r.choice((b"NOP", b"EQU", b"CON", b"ORIG")), r.choice((b"5", b"0", b"100")))
-        kind = r.randrange(10)
-        unmet = [name for name in self.used if name not in self.defined]
-        if kind < 4:
-            address = b""
-        elif kind < 6:
-            address = b"%d" % r.choice((0, 1, 5, 100, 3999, 4096, 8095))
-        elif kind < 8 and (unmet or self.defined):
-            address = texts.folded(r, r.choice(unmet + self.defined))
-        else:
-            address = r.choice((b"*-1", self.known(), b"-5", b"7(4:4)", b"*", b"-0"))
+        names = [*(name for name in self.used if name not in self.defined), *self.defined]
+        address = either(
+            r,
+            *(4, lambda: b""),
+            *(2, lambda: b"%d" % r.choice((0, 1, 5, 100, 3999, 4096, 8095))),
+            *(2 * bool(names), lambda: texts.folded(r, r.choice(names))),
+            *(2, lambda: r.choice((b"*-1", self.known(), b"-5", b"7(4:4)", b"*", b"-0"))),
+        )
         self.say(loc, b"END", address)
 
 

@@ -7,53 +7,54 @@ from tests.model.draw_text import joined
 
 def full_source(kind, more):
     """A source of so many lines, the same without END, or one of so many bytes; and one more."""
-    if kind == 0:
-        return b"\n" * (19999 + more) + b" END 0\n"
-    if kind == 1:
-        return b"* \n" * (20000 + more)
-    return b" END 0\n" + b"*" * (1048576 - 8 + more) + b"\n"
+    return (
+        b"\n" * (19999 + more) + b" END 0\n",
+        b"* \n" * (20000 + more),
+        b" END 0\n" + b"*" * (1048576 - 8 + more) + b"\n",
+    )[kind]
 
 
 def machine(r, which):
     """Lines, bytes, cells; the deck and the bundle."""
     kind, more = divmod(which, 2)
     script = b"%SCRIPT\nstep 3\nshow regs\n"
-    if kind in (0, 1, 3):
-        return full_source(min(kind, 2), more) + script
-    if kind == 2:
-        return b" STA %d\n" % r.randrange(4200) * (4000 + more) + b" END 3998\n" + script
-    if kind == 4:
-        return b" END 0\n%SCRIPT\nstep 3\n*" + b" " * (1048576 - 8 + more)
-    if kind == 5:
-        return b" END 0\n%SCRIPT\nstep 3\n" + b" " * (1048576 - 21 + more) + b"show regs\nstep"
-    if kind == 6:
-        return b" END 0\n%DEVICES\n" + b"\t\n" * 2000 + b" " * 1048577 + (b"x" if more else b"") + b"\n" + script
-    if kind == 7:
-        return b" END 0\n%DEVICES\n" + b" " * (33554431 + more) + b"\n%SCRIPT\nstep\n"
-    if kind == 8:
-        return b" END 0\n%DEVICES\n" + b" " * 10000000 + b"x\n%SCRIPT\n" + b" " * (41943040 - 10000026 + more)
-    return b" ENTA 5\n END 0\n%SCRIPT\n" + b"\n".join([
-        b"step 5000", b"back 1", b"back 3999", b"show cells 0 3999", b"set loc 0", b"step 4000", b"back all", b"show regs"])
+    end, deck = b" END 0\n%SCRIPT\nstep 3\n", b" END 0\n%DEVICES\n"
+    far = "step 5000|back 1|back 3999|show cells 0 3999|set loc 0|step 4000|back all|show regs"
+    return (
+        lambda: full_source(0, more) + script,
+        lambda: full_source(1, more) + script,
+        lambda: b" STA %d\n" % r.randrange(4200) * (4000 + more) + b" END 3998\n" + script,
+        lambda: full_source(2, more) + script,
+        lambda: end + b"*" + b" " * (1048576 - 8 + more),
+        lambda: end + b" " * (1048576 - 21 + more) + b"show regs\nstep",
+        lambda: deck + b"\t\n" * 2000 + b" " * 1048577 + b"x" * more + b"\n" + script,
+        lambda: deck + b" " * (33554431 + more) + b"\n%SCRIPT\nstep\n",
+        lambda: deck + b" " * 10000000 + b"x\n%SCRIPT\n" + b" " * (41943040 - 10000026 + more),
+        lambda: b" ENTA 5\n END 0\n%SCRIPT\n" + far.replace("|", "\n").encode(),
+    )[kind]()
 
 
 def assembler_source(r, which):
     """For the whole assembler: long chains too."""
     kind, more = divmod(which, 2)
-    if kind in (0, 1, 4):
-        return full_source(min(kind, 2), more)
-    if kind == 2:
-        return b" JMP X\n" * (3999 + more) + b" END 0\n"  # and X, which no line defines
-    if kind == 3:
-        return b" LDA =%d=\n" % r.randrange(9) * (2000 + more) + b" END 0\n"
-    if kind == 5:  # chains that run through cells which are overwritten
-        return b"".join(r.choice((b" JMP X\n", b" JMP Y\n", b" JMP 2F\n", b" ORIG 0\n", b"2H NOP\n")) for _ in range(9000)) + \
-            r.choice((b"X EQU -7\n", b"X EQU 4095\n", b"X EQU 4096\n", b"")) + b"2H HLT\n END Y\n"
-    if kind == 6:
-        return b"".join(b"N%d EQU %d\n" % (at, at % 5000 - 500) for at in range(6000)) + b" CON N77\n JMP N%d\n END\n" % r.randrange(6000)
-    if kind == 7:
-        return b"".join(b" LDA N%d\n" % at for at in range(1500 + more)) + \
-            b"".join(b"N%d CON %d\n" % (at, at) for at in range(0, 1500, 2)) + b" END 0\n"
-    return b" JMP 2F\n2H JMP 2B\n ORIG 0\n" * 5000 + b"2H END 2B\n"
+    many = lambda form, numbers: b"".join(form(at) for at in numbers)
+    chained = (b" JMP X\n", b" JMP Y\n", b" JMP 2F\n", b" ORIG 0\n", b"2H NOP\n")
+    ends = (b"X EQU -7\n", b"X EQU 4095\n", b"X EQU 4096\n", b"")
+    return (
+        lambda: full_source(0, more),
+        lambda: full_source(1, more),
+        lambda: b" JMP X\n" * (3999 + more) + b" END 0\n",  # and X, which no line defines
+        lambda: b" LDA =%d=\n" % r.randrange(9) * (2000 + more) + b" END 0\n",
+        lambda: full_source(2, more),
+        # chains that run through cells which are overwritten
+        lambda: many(lambda _: r.choice(chained), range(9000)) + r.choice(ends) + b"2H HLT\n END Y\n",
+        lambda: many(lambda at: b"N%d EQU %d\n" % (at, at % 5000 - 500), range(6000))
+        + b" CON N77\n JMP N%d\n END\n" % r.randrange(6000),
+        lambda: many(lambda at: b" LDA N%d\n" % at, range(1500 + more))
+        + many(lambda at: b"N%d CON %d\n" % (at, at), range(0, 1500, 2))
+        + b" END 0\n",
+        lambda: b" JMP 2F\n2H JMP 2B\n ORIG 0\n" * 5000 + b"2H END 2B\n",
+    )[kind]()
 
 
 def assembler(r, which):

@@ -1,5 +1,6 @@
 """Scenes of a script that try an instruction or a few: a state towards its edges, a step, and a look at the result."""
 
+from tests.model.operations import NAMES, REGISTERS as OF_CODE
 from tests.model.words import FIELDS, FULL, joined
 
 TOP = FULL - 1
@@ -7,7 +8,15 @@ EDGES = [0, 0, 1, 2, 63, 64, 65, 4095, 4096, 4097, 262143, 262144, 2**29, TOP //
 CELLS = [0, 1, 2, 99, 100, 100, 101, 102, 1000, 2000, 3998, 3999]
 ADDRESSES = [0, 0, 1, 2, 100, 3998, 3999, 3999, 4000, 4000, 4001, 4094, 4095, 4096, 4096, 4097, -1, -1, -2, -100, -3999,
              -4000, -4095, -4096, -4096]
-REGISTERS = ["A", "X", "I1", "I2", "I3", "I4", "I5", "I6", "J"]
+
+
+BYTES = (0, 0, 1, 9, 10, 19, 20, 29, 30, 39, 40, 62, 63)
+
+
+def either(r, *ways):
+    """What one of several functions gives; each is after its weight."""
+    (way,) = r.choices(ways[1::2], ways[::2])
+    return way()
 
 
 def signed(r, magnitude):
@@ -16,39 +25,28 @@ def signed(r, magnitude):
 
 def any_word(r):
     """A word: an edge, a small one, one of digits, one of telling bytes, or any."""
-    kind = r.randrange(10)
-    if kind < 3:
-        return signed(r, r.choice(EDGES))
-    if kind < 5:
-        return signed(r, r.randrange(200))
-    if kind < 6:
-        return joined(r.choice("+-"), [r.randrange(30, 40) for _ in range(5)])
-    if kind < 8:
-        return joined(r.choice("+-"), [r.choice((0, 0, 1, 9, 10, 19, 20, 29, 30, 39, 40, 62, 63)) for _ in range(5)])
-    return signed(r, r.randrange(FULL))
+    of_bytes = lambda byte: joined(r.choice("+-"), [byte() for _ in range(5)])
+    return either(
+        r,
+        *(3, lambda: signed(r, r.choice(EDGES))),
+        *(2, lambda: signed(r, r.randrange(200))),
+        *(1, lambda: of_bytes(lambda: r.randrange(30, 40))),
+        *(2, lambda: of_bytes(lambda: r.choice(BYTES))),
+        *(2, lambda: signed(r, r.randrange(FULL))),
+    )
 
 
 def near(r, word):
     """The word, or it with another sign, another byte, or one more or less."""
     sign, magnitude = word
-    kind = r.randrange(5)
-    if kind == 0:
-        sign = r.choice("+-")
-    elif kind == 1:
-        magnitude = max(magnitude - 1, 0)
-    elif kind == 2:
-        magnitude = min(magnitude + 1, TOP)
-    elif kind == 3:
-        magnitude = (magnitude + 64**r.randrange(5)) % FULL
-    return (sign, magnitude)
+    others = max(magnitude - 1, 0), min(magnitude + 1, TOP), (magnitude + 64 ** r.randrange(5)) % FULL
+    return r.choice([word, (r.choice("+-"), magnitude), *((sign, other) for other in others)])
 
 
 def text(r, word):
     """A word as a command takes it, with a plus sign or without, and perhaps with zeros before it."""
-    sign, magnitude = word
-    if sign == "+" and r.randrange(3):
-        sign = ""
-    return sign + ("%010d" if r.randrange(12) == 0 else "%d") % magnitude
+    sign = "" if word[0] == "+" and r.randrange(3) else word[0]
+    return sign + ("%010d" if r.randrange(12) == 0 else "%d") % word[1]
 
 
 def short(r):
@@ -65,7 +63,7 @@ class Scene:
 
     def __init__(self, r):
         self.r, self.lines, self.loc = r, [], 0
-        self.words = {register: ("+", 0) for register in REGISTERS}
+        self.words = {register: ("+", 0) for register in NAMES}
 
     def say(self, *words):
         self.lines.append(" ".join(str(word) for word in words))
@@ -88,7 +86,7 @@ class Scene:
         r = self.r
         if index is None:
             some = r.randrange(1, 7)
-            index = some if abs(m) > 4095 else r.choice((0, 0, 0, 0, 0, 0, 0, 0, some, some, some, r.randrange(64)))
+            index = some if abs(m) > 4095 else r.choice([0] * 8 + [some] * 3 + [r.randrange(64)])
         aa = m
         if 1 <= index <= 6:
             if r.randrange(3) or abs(m) > 4095:
@@ -115,13 +113,11 @@ def an_address(r):
 def state(s):
     """Some of the registers, the toggle and the indicator."""
     r = s.r
-    if r.randrange(2):
-        s.register("A", any_word(r))
-    if r.randrange(2):
-        s.register("X", any_word(r))
+    for name in ("A", "X"):
+        if r.randrange(2):
+            s.register(name, any_word(r))
     if r.randrange(3) == 0:
-        name = r.choice(REGISTERS[2:])
-        s.register(name, short(r))
+        s.register(r.choice(NAMES[2:]), short(r))
     if r.randrange(4) == 0:
         s.say("set", "over", r.choice(("on", "off")))
     if r.randrange(5) == 0:
@@ -131,7 +127,7 @@ def state(s):
 def on_memory(s, c):
     """Loads, stores, arithmetic and comparisons: operand and register belong together."""
     r, place, f = s.r, an_address(s.r), field(s.r)
-    name = "A" if c < 8 else REGISTERS[([0] + list(range(2, 8)) + [1])[c % 8]]
+    name = "A" if c < 8 else OF_CODE[c % 8]
     operand = any_word(r)
     if name not in ("A", "X") and r.randrange(4):  # for an index register, or beside its edge
         operand = signed(r, r.choice((0, 1, 100, 4095, 4096)) if r.randrange(2) else r.randrange(4096))
@@ -167,11 +163,10 @@ def on_rows(s, c):
     if c == 6:
         place = r.choice((0, 1, 1, 2, 3, 4, 5, 6, 8, 9, 10, 11, 19, 63, 64, 501, 4095, -1, r.randrange(4096)))
     elif 40 <= c < 48:
-        name = REGISTERS[([0] + list(range(2, 8)) + [1])[c % 8]]
-        s.register(name, signed(r, r.choice((0, 0, 0, 1, 4095, r.randrange(4096)))))
+        s.register(OF_CODE[c % 8], signed(r, r.choice((0, 0, 0, 1, 4095, r.randrange(4096)))))
     elif c >= 48:
         place = r.choice((0, 0, 1, 2, 4094, 4095, -1, -4095, r.randrange(-4095, 4096)))
-        name = REGISTERS[([0] + list(range(2, 8)) + [1])[c % 8]]
+        name = OF_CODE[c % 8]
         if name in ("A", "X"):
             edge = r.choice((TOP, TOP - 1, FULL - abs(place) if place else 0, abs(place), abs(place), abs(place) + 1))
             s.register(name, signed(r, edge) if r.randrange(4) else any_word(r))
@@ -199,6 +194,13 @@ def on_move(s):
     return [first]
 
 
+def on_pair(s, pair):
+    place, (c, f) = an_address(s.r), pair
+    s.cell(place, any_word(s.r))
+    s.code(s.loc, place, f, c)
+    return [place]
+
+
 MEMORY = list(range(1, 5)) * 3 + list(range(8, 34)) + list(range(56, 64))
 ROWS = [0, 5, 5, 5, 6, 6, 6] + [39] * 6 + list(range(40, 56))
 
@@ -209,22 +211,10 @@ def one(s, pair=None):
     s.loc = r.choice((0, 0, 0, 0, 1, 5, 2000, 3998, 3999, 3999, r.randrange(4000)))
     s.say("set", "loc", s.loc)
     state(s)
-    kind = r.randrange(20)
-    if pair or kind == 0:
-        place, (c, f) = an_address(r), pair or (r.randrange(64), r.randrange(64))
-        s.cell(place, any_word(r))
-        s.code(s.loc, place, f, c)
-        places = [place]
-    elif kind < 9:
-        places = on_memory(s, r.choice(MEMORY))
-    elif kind < 18:
-        places = on_rows(s, r.choice(ROWS))
-    else:
-        places = on_move(s)
-    if r.randrange(5):
-        s.say("step")
-    else:
-        s.say("step", r.choice((1, 1, 2, 3)))
+    ways = (1, lambda: on_pair(s, (r.randrange(64), r.randrange(64))), 2, lambda: on_move(s))
+    ways += (8, lambda: on_memory(s, r.choice(MEMORY)), 9, lambda: on_rows(s, r.choice(ROWS)))
+    places = on_pair(s, pair) if pair else either(r, *ways)
+    s.say("step", *[] if r.randrange(5) else [r.choice((1, 1, 2, 3))])
     s.look(*places)
 
 

@@ -2,14 +2,13 @@
 
 All of it is told from worlds made again from the loaded machine, and from what two of them differ in."""
 
-from tests.model.command_words import condition, conditions_in_range, digits_of, one_condition
+from tests.model.command_words import condition, conditions_in_range, one_condition
 from tests.model.lines import text_of
 from tests.model.listing import source_of, source_text
 from tests.model.world import do, replay
 from tests.model.operations import FIRST_BYTE, NAMES
 from tests.model.texts import Fault
 from tests.model.transfers import conflicts
-from tests.model.units import UNITS
 from tests.model.words import written
 
 
@@ -22,28 +21,26 @@ def on_off(flag):
 
 def differences(v, w):
     """An item for each part that differs, with the part's kind, in the order of `show all`."""
-    items = []
-    for name in NAMES:
-        before, after = v.registers[name], w.registers[name]
+    def item(kind, name, before, after):
         if before != after:
-            items.append(("register", "%s %s -> %s" % (name, *(written(word, FIRST_BYTE[name]) for word in (before, after)))))
-    if v.over != w.over:
-        items.append(("over", "over %s -> %s" % (on_off(v.over), on_off(w.over))))
-    if v.cmp != w.cmp:
-        items.append(("cmp", "cmp %s -> %s" % (v.cmp, w.cmp)))
-    if v.loc != w.loc:
-        items.append(("loc", "loc %04d -> %04d" % (v.loc, w.loc)))
-    if v.clock != w.clock:
-        items.append(("clock", "clock %d -> %d" % (v.clock, w.clock)))
+            yield kind, f"{name} {before} -> {after}"
+
+    for name in NAMES:
+        pair = (written(world.registers[name], FIRST_BYTE[name]) for world in (v, w))
+        yield from item("register", name, *pair)
+    yield from item("over", "over", on_off(v.over), on_off(w.over))
+    yield from item("cmp", "cmp", v.cmp, w.cmp)
+    yield from item("loc", "loc", "%04d" % v.loc, "%04d" % w.loc)
+    yield from item("clock", "clock", v.clock, w.clock)
     for place in sorted(set(v.cells) | set(w.cells)):
-        if v.cell(place) != w.cell(place):
-            items.append(("cell", "%04d %s -> %s" % (place, written(v.cell(place)), written(w.cell(place)))))
+        pair = written(v.cell(place)), written(w.cell(place))
+        yield from item("cell", "%04d" % place, *pair)
     for place in sorted(v.breaks ^ w.breaks):
-        items.append(("break", "break %04d %s -> %s" % (place, on_off(place in v.breaks), on_off(place in w.breaks))))
-    for n in range(UNITS):
-        if v.units[n] != w.units[n]:
-            items.append(("unit", unit_item(n, v.units[n], w.units[n])))
-    return items
+        pair = on_off(place in v.breaks), on_off(place in w.breaks)
+        yield from item("break", "break %04d" % place, *pair)
+    for n, units in enumerate(zip(v.units, w.units)):
+        if units[0] != units[1]:
+            yield "unit", unit_item(n, *units)
 
 
 def unit_item(n, v, w):
@@ -51,32 +48,31 @@ def unit_item(n, v, w):
     for at, (before, after) in enumerate(zip(v.blocks, w.blocks)):
         if before != after:
             item += " block %d" % at
-    for name, before, after in [("place", v.place, w.place), ("blocks", len(v.blocks), len(w.blocks)),
-                                ("output", len(v.rows), len(w.rows)), ("until", v.until, w.until)]:
-        if before != after:
-            item += " %s %d -> %d" % (name, before, after)
-    return item
+    names = ("place", "blocks", "output", "until")
+    values = ((one.place, len(one.blocks), len(one.rows), one.until) for one in (v, w))
+    pairs = ((name, pair) for name, *pair in zip(names, *values) if pair[0] != pair[1])
+    return item + "".join(" %s %d -> %d" % (name, *pair) for name, pair in pairs)
 
 
 # One change, told in a line
 
 
 def change_text(change, before):
-    if change[0] == "step":
-        return text_of(before.cell(before.loc))
-    if change[0] == "register":
-        return "set " + change[1]
-    if change[0] == "cell":
-        return "set cell %04d" % change[1]
-    if change[0] in ("break", "clear"):
-        return "%s %04d" % change
+    match change:
+        case ["step"]:
+            return text_of(before.cell(before.loc))
+        case ["register", name, _]:
+            return "set " + name
+        case ["cell", place, _]:
+            return "set cell %04d" % place
+        case ["break" | "clear" as kind, place]:
+            return "%s %04d" % (kind, place)
     return "set " + change[0]
 
 
 def told(n, change, before, after):
-    items = differences(before, after)
-    if change[0] == "step":
-        items = [item for item in items if item[0] not in ("loc", "clock")]
+    left_out = ("loc", "clock") if change[0] == "step" else ()
+    items = [item for item in differences(before, after) if item[0] not in left_out]
     cells = [text for kind, text in items if kind == "cell"]
     texts = []
     for kind, text in items:
@@ -151,27 +147,12 @@ def counts(session):
         if change[0] == "step":
             numbers[before.loc] = numbers.get(before.loc, 0) + 1
             times[before.loc] = times.get(before.loc, 0) + after.clock - before.clock
-    lines = []
+    lines = ""
     for place in sorted(numbers):
         found = source_of(session, place)
-        line = "%10d  %10d  %04d" % (numbers[place], times[place], place)
-        lines.append(line + ("  " + source_text(session, place, found) if found else ""))
-    lines.append("%10d  %10d  total" % (sum(numbers.values()), sum(times.values())))
-    return "".join(line + "\n" for line in lines)
-
-
-def show_past(session, words):
-    if words == [b"COUNTS"]:
-        return counts(session)
-    if words == [b"CONFLICTS"]:
-        return clashing(session)
-    if len(words) == 2 and words[0] == b"LAST":
-        return last(session, digits_of(words[1]))
-    if words[:1] == [b"WRITES"]:
-        return writes(session, conditions_in_range([one_condition(session, words[1:])]))
-    if len(words) == 2 and words[0] == b"DIFF":
-        return diff(session, digits_of(words[1]))
-    raise Fault("C2")
+        text = "  " + source_text(session, place, found) if found else ""
+        lines += "%10d  %10d  %04d%s\n" % (numbers[place], times[place], place, text)
+    return lines + "%10d  %10d  total\n" % (sum(numbers.values()), sum(times.values()))
 
 
 def last(session, number):
@@ -181,19 +162,19 @@ def last(session, number):
     return "".join(told(*move) for move in moves(session.loaded, session.changes) if move[0] > first)
 
 
-def writes(session, cond):
+def writes(session, words):
+    cond = conditions_in_range([one_condition(session, words)])
     if cond[0][0] == "conflict":
         return clashing(session)
-    return "".join(told(*move) for move in moves(session.loaded, session.changes) if reached(cond, move[2], move[3], move[0]))
+    past = moves(session.loaded, session.changes)
+    return "".join(told(n, *move) for n, *move in past if reached(cond, *move[1:], n))
 
 
 def clashing(session):
     """The lines of the changes that conflict with a transfer under way, each with the cell and the transfer."""
-    lines = []
-    for move, found in zip(moves(session.loaded, session.changes), conflicts(session.loaded, session.changes)):
-        if found:
-            lines.append(told(*move)[:-1] + "  cell %04d, unit %d until %d\n" % found)
-    return "".join(lines)
+    past = session.loaded, session.changes
+    pairs = ((told(*move)[:-1], found) for move, found in zip(moves(*past), conflicts(*past)) if found)
+    return "".join("%s  cell %04d, unit %d until %d\n" % (text, *found) for text, found in pairs)
 
 
 def diff(session, n):

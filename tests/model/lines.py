@@ -1,5 +1,6 @@
 """A line of a source: LOC, OP and ADDRESS, and the characters of ALF (1.3.2); and the line that assembles to a word."""
 
+import re
 from collections import namedtuple
 
 from tests.model.expressions import is_local, is_symbol
@@ -12,7 +13,7 @@ from tests.model.words import FIELDS, code_of, instruction, joined, number_text
 # ("orig",), ("con",), ("end",) or ("alf", word), which has no ADDRESS.
 Line = namedtuple("Line", "loc op address")
 
-BLANKS = b" \t"
+BLANKS, WORD = re.compile(rb"[ \t]*"), re.compile(rb"[^ \t]*")
 LETTERS = b"ABCDEFGHIJKLMNOPQRSTUVWXYZabcdefghijklmnopqrstuvwxyz"
 MAY_HAVE_A_REMARK_ALONE = (b"HLT", b"NUM", b"CHAR")
 PSEUDO = {b"EQU": ("equ",), b"ORIG": ("orig",), b"CON": ("con",), b"END": ("end",)}
@@ -35,16 +36,12 @@ OPERATIONS = {**_table(), **PSEUDO}
 
 def word_at(line, at):
     """What stands from there to the next blank, and where it ends."""
-    end = at
-    while end < len(line) and line[end] not in BLANKS:
-        end += 1
-    return line[at:end], end
+    word = WORD.match(line, at)
+    return word[0], word.end()
 
 
 def after_blanks(line, at):
-    while at < len(line) and line[at] in BLANKS:
-        at += 1
-    return at
+    return BLANKS.match(line, at).end()
 
 
 def check_characters(text):

@@ -10,7 +10,7 @@ import pytest
 
 from tests import rowfiles
 from tests.model import words as w
-from tests.model.answers import Request, answer
+from tests.model.answers import answer
 from tests.model.assembler import Program, assemble, first_pass
 from tests.model.bundle import debug, run, run_list
 from tests.model.commands import Session
@@ -23,8 +23,8 @@ from tests.model.world import World, do
 from tests.rows.faces import bytes_of
 
 HERE = pathlib.Path(__file__).parent
-# What the rows of single texts stand on: the symbols, and the operation of an ADDRESS.
-KNOWN = {"L": ({}, None), "E": ({b"X": "+5", b"9B": "-4"}, None), "W": ({b"2B": "-3"}, None), "A": ({b"2B": "+0", b"X": "-7"}, (8, 5))}
+# The symbols of the rows of single texts.
+KNOWN = {"L": {}, "E": {b"X": "+5", b"9B": "-4"}, "W": {b"2B": "-3"}, "A": {b"2B": "+0", b"X": "-7"}}
 
 
 def word(text):
@@ -69,8 +69,8 @@ def reply(script, wanted):
 
 def of_text(kind):
     def answered(field, wanted):
-        names, op = KNOWN[kind]
-        return answer(Request(kind, word("+7"), op, {name: word(value) for name, value in names.items()}, unfolded(field))), wanted
+        names = {name: word(value) for name, value in KNOWN[kind].items()}
+        return answer(kind, unfolded(field), names, word("+7"), 5), wanted
     return answered
 
 

@@ -15,7 +15,6 @@ from hypothesis import strategies as st
 from tests.drawing import drawn_anew
 from tests.model import bundle, draw, draw_asm, draw_limits, draw_units
 from tests.model.operations import UNIT_OPERATIONS
-from tests.model.program import Runner
 from tests.model.words import instruction
 
 NAMED = b"%UNIT 16 delay 3\nNAMED\n"  # a deck
@@ -55,11 +54,11 @@ def of_model(text, way, watch):
 
 def of_program(runner, text, way):
     if way == "list":
-        return runner.run_on("/dev/null", ["list", runner.write(text)])
+        return runner.run_on("/dev/null", ["list", runner.file("in", text)])
     if way == "debug":
         script, named = debugged(text)
-        deck = [] if named is None else ["--devices", runner.write(named, "-deck")]
-        return runner.run_on("/dev/null", ["debug", runner.write(text), runner.write(script, "-script"), *deck])
+        deck = [] if named is None else ["--devices", runner.file("deck", named)]
+        return runner.run_on("/dev/null", ["debug", runner.file("in", text), runner.file("script", script), *deck])
     return runner.run(text)
 
 
@@ -85,11 +84,6 @@ def same(runner, text, way):
     assert [part.split(b"\n") for part in program[:2]] == [part.split(b"\n") for part in model[:2]]
     assert program[2] == model[2]
     return {f"status {model[2]}", *(fault.decode() for fault in FAULT.findall(model[0] + model[1])), *filter(None, steps)}
-
-
-@pytest.fixture
-def runner(program, tmp_path):
-    return Runner(program, tmp_path)
 
 
 @pytest.mark.parametrize("name", TOPICS)

@@ -41,30 +41,13 @@ def kind_of(f):
     return KINDS[f]
 
 
-# Each of these looks whether the unit does such a transfer at all.
-
-
-def check_in(kind):
-    if not (kind.medium or kind.input):
-        raise Fault("M10")
-
-
-def check_out(kind):
-    if not (kind.medium or kind.output):
-        raise Fault("M10")
-
-
-def check_control(kind, unit, m):
-    if kind in (READER, PUNCH, TYPEWRITER):
-        raise Fault("M12")
-    if kind == TAPE:
-        if unit.place + m > len(unit.blocks):
-            raise Fault("M12")
-    elif m != 0:
-        raise Fault("M12")
-
-
 # The transfers
+
+
+def check(kind, way):
+    """Whether the unit does such a transfer, an input or an output, at all."""
+    if not (kind.medium or getattr(kind, way)):
+        raise Fault("M10")
 
 
 def read(kind, unit, x):
@@ -96,6 +79,9 @@ def with_row(unit, row):
 
 
 def control(kind, unit, m):
+    wrong = unit.place + m > len(unit.blocks) if kind == TAPE else m != 0
+    if wrong or kind in (READER, PUNCH, TYPEWRITER):
+        raise Fault("M12")
     if kind == TAPE:
         return unit._replace(place=0 if m == 0 else max(unit.place + m, 0))
     if kind == PRINTER:

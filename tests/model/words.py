@@ -33,12 +33,7 @@ def negated(word):
 
 def bytes_of(word):
     """Bytes 1 to 5."""
-    magnitude = word[1]
-    found = []
-    for _ in range(5):
-        found.insert(0, magnitude % 64)
-        magnitude //= 64
-    return found
+    return [word[1] // 64**at % 64 for at in (4, 3, 2, 1, 0)]
 
 
 def joined(sign, five):
@@ -77,11 +72,8 @@ def field_value(word, code):
 def put_field(word, code, value):
     """The rightmost bytes of the value take the place of the field's bytes."""
     left, right = FIELDS[code]
-    first = max(left, 1)
-    five = bytes_of(word)
-    count = right - first + 1
-    if count > 0:
-        five[first - 1:right] = bytes_of(value)[5 - count:]
+    before, five = max(left, 1) - 1, bytes_of(word)
+    five[before:right] = bytes_of(value)[5 - (right - before) :]
     return joined(value[0] if left == 0 else word[0], five)
 
 
@@ -117,21 +109,15 @@ def div(a, x, v):
 
 def shift(kind, a, x, m):
     """A shift by m bytes: SLA and SRA move a alone, the others the ten bytes of a and x. The signs stay."""
-    moved = bytes_of(a) if kind in ("SLA", "SRA") else bytes_of(a) + bytes_of(x)
-    size = len(moved)
+    is_alone, is_left = kind in ("SLA", "SRA"), kind[1] == "L"
+    moved = bytes_of(a) if is_alone else bytes_of(a) + bytes_of(x)
     if kind in ("SLC", "SRC"):
-        m %= 10
-        cut = m if kind == "SLC" else size - m
+        cut = m % 10 if is_left else -m % 10
         moved = moved[cut:] + moved[:cut]
     else:
-        m = min(m, size)
-        if kind in ("SLA", "SLAX"):
-            moved = moved[m:] + [0] * m
-        else:
-            moved = [0] * m + moved[:size - m]
-    if size == 5:
-        return joined(a[0], moved), x
-    return joined(a[0], moved[:5]), joined(x[0], moved[5:])
+        zeros = [0] * min(m, len(moved))
+        moved = moved[m:] + zeros if is_left else zeros + moved[: len(moved) - len(zeros)]
+    return joined(a[0], moved[:5]), x if is_alone else joined(x[0], moved[5:])
 
 
 def num(a, x):

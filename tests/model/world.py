@@ -2,9 +2,11 @@
 
 from tests.model.operations import NAMES, NEEDS_FIELD, NEEDS_NO_ADDRESS, operation
 from tests.model.texts import Fault
-from tests.model.units import begun, check_control, check_in, check_out, control, is_busy, kind_of, no_units, read, write
-from tests.model.words import (FIELDS, ZERO, add, compare, div, field_value, instruction, mul, negated, num, number, put_field, shift, sub,
-                   to_char, word_of)
+from tests.model.units import begun, check, control, is_busy, kind_of, no_units, read, write
+from tests.model.words import (
+    FIELDS, ZERO, add, compare, div, field_value, instruction, mul, negated, num, number, put_field,
+    shift, sub, to_char, word_of,
+)
 
 CELLS = 4000
 CLOCK_LIMIT = 10**18
@@ -84,7 +86,7 @@ def step(world):
             raise Fault("M4")
     if c in NEEDS_FIELD and f not in FIELDS:
         raise Fault("M6")
-    ACTIONS[op.kind](new, op, f, m, sign)
+    operate(new, op, f, m, sign)
     if new.clock > CLOCK_LIMIT:
         raise Fault("M14")
     return new, op.name
@@ -96,61 +98,63 @@ def place_of(m):
     return m
 
 
-# What each kind of operation does to the world, whose location is the next one already.
+def operate(w, op, f, m, sign):
+    """What an operation does to the world, whose location is the next one already."""
+    registers, kind = w.registers, op.kind
+    match kind:
+        case "NOP" | "HLT":
+            pass
+        case "LD" | "LDN" | "ADD" | "SUB" | "MUL" | "DIV" | "CMP":
+            with_operand(w, op, f, w.cell(place_of(m)))
+        case "ST" | "STZ":
+            value = ZERO if kind == "STZ" else registers[op.register]
+            w.cells[place_of(m)] = put_field(w.cell(m), f, value)
+        case "NUM":
+            registers["A"], overflow = num(registers["A"], registers["X"])
+            w.over = w.over or overflow
+        case "CHAR":
+            registers["A"], registers["X"] = to_char(registers["A"], registers["X"])
+        case "MOVE":
+            move(w, f, m)
+        case "INC" | "DEC":
+            increase(w, op.register, m if kind == "INC" else -m)
+        case "ENT" | "ENN":
+            value = word_of(m, sign)
+            w.set_register(op.register, negated(value) if kind == "ENN" else value)
+        case "IN" | "OUT" | "IOC":
+            transfer(w, kind, f, m)
+        case _ if kind[0] == "J":
+            if is_taken(w, op, f):
+                if kind != "JSJ":
+                    registers["J"] = ("+", w.loc)
+                w.loc = place_of(m)
+        case _:
+            if m < 0:
+                raise Fault("M8")
+            registers["A"], registers["X"] = shift(kind, registers["A"], registers["X"], m)
 
 
-def nothing(w, op, f, m, sign):
-    pass
+def with_operand(w, op, f, cell):
+    """Loads, arithmetic and comparisons, with a field of a cell."""
+    a, x, value = w.registers["A"], w.registers["X"], field_value(cell, f)
+    match op.kind:
+        case "LD" | "LDN":
+            w.set_register(op.register, negated(value) if op.kind == "LDN" else value)
+        case "CMP":
+            w.cmp = compare(w.registers[op.register], cell, f)
+        case "MUL":
+            w.registers["A"], w.registers["X"] = mul(a, value)
+        case "DIV":
+            result = div(a, x, value)
+            w.over = w.over or result is None
+            w.registers["A"], w.registers["X"] = result or (a, x)
+        case kind:
+            w.registers["A"], overflow = (add if kind == "ADD" else sub)(a, value)
+            w.over = w.over or overflow
 
 
-def load(w, op, f, m, sign):
-    value = field_value(w.cell(place_of(m)), f)
-    w.set_register(op.register, negated(value) if op.kind == "LDN" else value)
-
-
-def store(w, op, f, m, sign):
-    value = ZERO if op.kind == "STZ" else w.registers[op.register]
-    w.cells[place_of(m)] = put_field(w.cell(m), f, value)
-
-
-def add_or_subtract(w, op, f, m, sign):
-    value = field_value(w.cell(place_of(m)), f)
-    result, overflow = (add if op.kind == "ADD" else sub)(w.registers["A"], value)
-    w.registers["A"] = result
-    w.over = w.over or overflow
-
-
-def multiply(w, op, f, m, sign):
-    value = field_value(w.cell(place_of(m)), f)
-    w.registers["A"], w.registers["X"] = mul(w.registers["A"], value)
-
-
-def divide(w, op, f, m, sign):
-    value = field_value(w.cell(place_of(m)), f)
-    result = div(w.registers["A"], w.registers["X"], value)
-    if result is None:
-        w.over = True  # and rA and rX stay
-    else:
-        w.registers["A"], w.registers["X"] = result
-
-
-def to_number(w, op, f, m, sign):
-    w.registers["A"], overflow = num(w.registers["A"], w.registers["X"])
-    w.over = w.over or overflow
-
-
-def to_characters(w, op, f, m, sign):
-    w.registers["A"], w.registers["X"] = to_char(w.registers["A"], w.registers["X"])
-
-
-def shift_bytes(w, op, f, m, sign):
-    if m < 0:
-        raise Fault("M8")
-    w.registers["A"], w.registers["X"] = shift(op.kind, w.registers["A"], w.registers["X"], m)
-
-
-def move(w, op, f, m, sign):
-    """F words, one at a time, the lowest first: where source and target overlap, what was moved is moved again."""
+def move(w, f, m):
+    """F words, one at a time, the lowest first: if they overlap, a moved word is moved again."""
     if f == 0:
         return
     target = number(w.registers["I1"])
@@ -162,84 +166,47 @@ def move(w, op, f, m, sign):
     w.set_register("I1", word_of(target + f))
 
 
-def compare_register(w, op, f, m, sign):
-    w.cmp = compare(w.registers[op.register], w.cell(place_of(m)), f)
-
-
-def increase(w, op, f, m, sign):
-    old = w.registers[op.register]
-    by = m if op.kind == "INC" else -m
-    if op.register in ("A", "X"):
-        w.registers[op.register], overflow = add(old, word_of(by))
+def increase(w, register, by):
+    old = w.registers[register]
+    if register in ("A", "X"):
+        w.registers[register], overflow = add(old, word_of(by))
         w.over = w.over or overflow
     else:
-        w.set_register(op.register, word_of(number(old) + by, old[0]))
+        w.set_register(register, word_of(number(old) + by, old[0]))
 
 
-def enter(w, op, f, m, sign):
-    value = word_of(m, sign)
-    w.set_register(op.register, negated(value) if op.kind == "ENN" else value)
-
-
-def jump(w, m, keeps_j=False):
-    target = place_of(m)
-    if not keeps_j:
-        w.registers["J"] = ("+", w.loc)
-    w.loc = target
-
-
-def transfer(w, op, f, m, sign):
-    """IN, OUT and IOC. The clock stood one lower before this step."""
+def transfer(w, kind_of_transfer, f, m):
+    """IN, OUT and IOC. The clock was one lower before this step."""
     kind, unit = kind_of(f), w.units[f]
-    if op.kind == "IOC":
-        check_control(kind, unit, m)
+    if kind_of_transfer == "IOC":
         unit = control(kind, unit, m)
     else:
-        (check_in if op.kind == "IN" else check_out)(kind)
+        check(kind, "input" if kind_of_transfer == "IN" else "output")
         place_of(m)
         place_of(m + kind.size - 1)
         cells = range(m, m + kind.size)
-        if op.kind == "IN":
+        if kind_of_transfer == "IN":
             unit, words = read(kind, unit, w.registers["X"])
             w.cells.update(zip(cells, words))
         else:
             unit = write(kind, unit, w.registers["X"], [w.cell(place) for place in cells])
     w.clock, unit = begun(w.clock - 1, unit)
-    w.units = w.units[:f] + (unit,) + w.units[f + 1:]
+    w.units = w.units[:f] + (unit,) + w.units[f + 1 :]
 
 
-def jump_on_unit(w, op, f, m, sign):
-    kind_of(f)
-    if is_busy(w.clock - 1, w.units[f]) == (op.kind == "JBUS"):
-        jump(w, m)
-
-
-def jump_always(w, op, f, m, sign):
-    jump(w, m, op.kind == "JSJ")
-
-
-def jump_on_overflow(w, op, f, m, sign):
-    was_on = w.over
-    w.over = False
-    if was_on == (op.kind == "JOV"):
-        jump(w, m)
-
-
-def jump_on_comparison(w, op, f, m, sign):
-    if w.cmp in {"JL": "L", "JE": "E", "JG": "G", "JGE": "GE", "JNE": "LG", "JLE": "LE"}[op.kind]:
-        jump(w, m)
-
-
-def jump_on_register(w, op, f, m, sign):
-    n = number(w.registers[op.register])
-    if {"N": n < 0, "Z": n == 0, "P": n > 0, "NN": n >= 0, "NZ": n != 0, "NP": n <= 0}[op.kind[2:]]:
-        jump(w, m)
-
-
-ACTIONS = {kind: action for kinds, action in {
-    "NOP,HLT": nothing, "NUM": to_number, "CHAR": to_characters, "ADD,SUB": add_or_subtract, "MUL": multiply, "DIV": divide,
-    "SLA,SRA,SLAX,SRAX,SLC,SRC": shift_bytes, "MOVE": move, "LD,LDN": load, "ST,STZ": store, "CMP": compare_register,
-    "JMP,JSJ": jump_always, "JOV,JNOV": jump_on_overflow, "JL,JE,JG,JGE,JNE,JLE": jump_on_comparison,
-    "J N,J Z,J P,J NN,J NZ,J NP": jump_on_register, "IN,OUT,IOC": transfer, "JBUS,JRED": jump_on_unit,
-    "INC,DEC": increase, "ENT,ENN": enter,
-}.items() for kind in kinds.split(",")}
+def is_taken(w, op, f):
+    """Whether a jump leads to M. JOV and JNOV turn the toggle off."""
+    match op.kind:
+        case "JMP" | "JSJ":
+            return True
+        case "JBUS" | "JRED":
+            kind_of(f)
+            return is_busy(w.clock - 1, w.units[f]) == (op.kind == "JBUS")
+        case "JOV" | "JNOV":
+            was_on, w.over = w.over, False
+            return was_on == (op.kind == "JOV")
+    n = number(w.registers[op.register]) if op.register else {"L": -1, "E": 0, "G": 1}[w.cmp]
+    return {
+        "N": n < 0, "L": n < 0, "Z": n == 0, "E": n == 0, "P": n > 0, "G": n > 0,
+        "NN": n >= 0, "GE": n >= 0, "NZ": n != 0, "NE": n != 0, "NP": n <= 0, "LE": n <= 0,
+    }[op.kind[1:].strip()]

@@ -1,5 +1,4 @@
 """Kinds of rows of decks, cards and lines for the typewriter: what they fill, and their first faults."""
-import pathlib
 import re
 
 from tests.rows.faces import bytes_of
@@ -34,10 +33,10 @@ def given(program, fields, wanted, option):
     deck, text = program.file("d", text_of(fields[0])), program.file("c", text_of(fields[1]))
     words = ["run", program.file("s", b" HLT\n END 0\n"), "--devices", deck, option, text, "--keep", "kept"]
     program.file("kept", b"")
-    _, errors, status = program.run(words)
+    _, errors, status = program.run(words=words)
     if status:
         return refusal(errors.decode().strip())
-    return filled(program, (pathlib.Path(program.folder) / "kept").read_bytes(), wanted)
+    return filled(program, (program.place / "kept").read_bytes(), wanted)
 
 
 def deck_fault(program, fields, wanted):

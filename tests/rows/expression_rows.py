@@ -61,7 +61,7 @@ def address(program, fields, wanted):
         return wanted if abs(int(wanted.split()[0])) > 4095 else "A9"
     word = program.replies(source, ["show cells 7 7"])[0].split()[1:]
     cell, index, f = 64 * int(word[1]) + int(word[2]), int(word[3]), int(word[4])
-    inserted = program.run(["list", program.file("s", source)])[0].decode().split("\r\n")[-1].split("\n")
+    inserted = program.listing(source).split("\r\n")[-1].split("\n")
     names = [line[31:] for line in inserted if line.startswith("0008") and line[24:29] == "     "]
     if names and cell == 8:
         a = f"=[{names[0][1:-1]}]=" if names[0].startswith("=") else f"[{names[0]}]"
@@ -108,8 +108,7 @@ TEXTS = {"BadByte": b" ?", "NoSuchOperation": b" FOO", "BadSymbol": b"5 NOP", "B
 
 
 def fault_text(program, fields, _):
-    refused = program.run(["list", program.file("s", TEXTS[fields[0]] + END)])[0].decode()
-    return refused.removeprefix("line 1: ").strip()
+    return program.listing(TEXTS[fields[0]] + END).removeprefix("line 1: ").strip()
 
 
 KINDS = {"expression first": first, "expression whole": whole, "expression w-value": w_value, "expression address": address, "expression normal F": normal_f,

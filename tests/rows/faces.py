@@ -1,43 +1,29 @@
 """The program behind its command line, for rows: each face takes texts and gives what a person would read."""
 import json
-import os
-import pathlib
 import re
-import subprocess
-import tempfile
 
-LIMIT = 300  # seconds
+from tests.model.program import Runner
 
 
-class Program:
-    """The built program, and a folder for the files of its runs."""
+class Program(Runner):
+    """The built program, and what a person would read of it."""
 
-    def __init__(self, path, folder):
-        self.path, self.folder = path, folder
-
-    def file(self, name, text):
-        pathlib.Path(self.folder, name).write_bytes(text)
-        return name
-
-    def run(self, words, given=b"", **environment):
-        """Standard output, standard error and the status."""
-        # (a file, since what fills a pipe may be late, and a read would give less)
-        with tempfile.TemporaryFile() as file:
-            file.write(given)
-            file.seek(0)
-            done = subprocess.run([self.path, *words], stdin=file, capture_output=True, cwd=self.folder, timeout=LIMIT, env={**os.environ, **environment})
-        return done.stdout, done.stderr, done.returncode
+    def listing(self, source):
+        """What `list` writes of a source."""
+        return self.run(words=["list", self.file("s", source)])[0].decode("latin-1")
 
     def replies(self, source, script, deck=b"", *words):
         """The lines that a script writes, or one with the refusal of its source or of its deck."""
         given = ["debug", self.file("s", source), "-", "--devices", self.file("d", deck), *words]
-        output, errors, _ = self.run(given, script if isinstance(script, bytes) else "".join(f"{line}\n" for line in script).encode())
+        text = script if isinstance(script, bytes) else "".join(f"{it}\n" for it in script).encode()
+        output, errors, _ = self.run(text, given)
         return (output or errors).decode("latin-1").split("\n")[:-1]
 
     def found(self, source, *more):
         """All that a check finds in a source, or in several, which are named 0, 1 and so on."""
         files = [self.file(str(n), text) for n, text in enumerate((source, *more))]
-        return [json.loads(line) for line in self.run(["check", "--json", *files])[0].splitlines()]
+        output, _, _ = self.run(words=["check", "--json", *files])
+        return [json.loads(line) for line in output.splitlines()]
 
     def value(self, expression, source=b" END 0\n"):
         """The word, the number and the characters of `show value`, or nothing."""

@@ -4,7 +4,6 @@ import re
 import machine
 
 OPERATION = {each.name: each for each in machine.OPERATIONS}
-REGISTERS = ("A", "X", "I1", "I2", "I3", "I4", "I5", "I6", "J")
 END = b" END 0\n"
 
 

@@ -3,7 +3,8 @@ import re
 
 import pexpect
 
-from tests.rows.faces import LIMIT, bytes_of, shown
+from tests.model.program import SECONDS
+from tests.rows.faces import bytes_of, shown
 
 
 def of_each(item):
@@ -54,7 +55,7 @@ def definitions(program, source, symbol):
 def talk(program, source, line):
     """What is written at a terminal without echo, so that no line typed ahead stands between."""
     words = ["debug", program.file("s", source)]
-    child = pexpect.spawn(program.path, words, cwd=program.folder, echo=False, timeout=LIMIT)
+    child = pexpect.spawn(program.program, words, cwd=program.place, echo=False, timeout=SECONDS)
     child.send(f"{line}\nquit\n")
     child.expect(pexpect.EOF)
     return child.before.decode("latin-1").replace("\r\n", "\n")
@@ -83,14 +84,14 @@ def full(program, fields, wanted):
 def program_of(program, fields, wanted):
     """The words of a listing, each after its location, and the start at its END. How many future references there are no listing says: the contract of
     `assemble` counts them by its definition."""
-    listed = program.run(["list", program.file("s", bytes_of(fields[0]))])[0].decode("latin-1").split("\n")
+    listed = program.listing(bytes_of(fields[0])).split("\n")
     told = [f"{int(line[:4])} {line[6:22]}" for line in listed if re.match(r"\d{4}  [+-]", line)]
     start = next(int(line[:4]) for line in listed if re.match(r"\d{4} {18}", line))
     return ", ".join([*told, f"start {start}", wanted.split(", ")[-1]])
 
 
 def fault(program, source):
-    line = program.run(["list", program.file("s", source)])[0].decode().strip()
+    line = program.listing(source).strip()
     found = re.fullmatch(r"line \d+: (A(\d+) (.*))", line)
     return f"{line}; {found[1]}; {found[2]}; {found[3]}" if found else "no fault"
 

@@ -3,11 +3,11 @@ what `show diff` says."""
 import pathlib
 import re
 
+from machine import CHARACTERS
+from tests import REGISTERS
 from tests.rows.faces import number, written
 
 HERE = pathlib.Path(__file__).resolve().parent
-CHARACTERS = " ABCDEFGHI~JKLMNOPQR[#STUVWXYZ0123456789.,()+-*/=$<>@;:'"
-REGISTERS = ("A", "X", "I1", "I2", "I3", "I4", "I5", "I6", "J")
 LAST_CLOCK = 10 ** 18
 WAITING = 1  # the tape whose transfers let the clock go on
 

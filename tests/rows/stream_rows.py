@@ -1,44 +1,30 @@
 """Kinds of rows of what a run reads and writes, call by call, behind a library in front of the C library's."""
-import os
-import pathlib
-import subprocess
-
 from tests.rows.faces import bytes_of, shown
 
-REFUSE = pathlib.Path(__file__).resolve().parents[1] / "hostile" / "refuse.c"
-CHUNK = 4096
-
-
-def called(program, words, given=b"", **bounds):
-    """What is written, what is reported, each call of a read or of a write of standard output with what it gave, and the status."""
-    library, told = os.path.join(program.folder, "refuse.so"), os.path.join(program.folder, "called")
-    if not os.path.exists(library):
-        subprocess.run(["cc", "-shared", "-fPIC", "-O1", "-o", library, REFUSE, "-ldl"], check=True)
-    if os.path.exists(told):
-        os.unlink(told)
-    output, errors, status = program.run(words, given, LD_PRELOAD=library, CALLED_TO=told, **{name.upper(): str(bound) for name, bound in bounds.items()})
-    lines = pathlib.Path(told).read_text().split("\n")[:-1] if os.path.exists(told) else []
-    return output, errors, [line.split() for line in lines], status
+CALLED, CHUNK = "CALLED_TO", 4096
 
 
 def listing(program, fields, _):
     """The same by one byte a call, by five, and by all."""
-    name = program.file("s", bytes_of(fields[0]))
-    whole, *others = (called(program, ["list", name], write_most=size)[0] for size in (1 << 20, 1, 5))
+    words = ["list", program.file("s", bytes_of(fields[0]))]
+    whole, *others = (
+        program.behind(CALLED, b"", words, write_most=size)[0][0] for size in (1 << 20, 1, 5)
+    )
     return shown(whole) if others == [whole, whole] else "another"
 
 
 def failed_listing(program, fields, _):
-    name = program.file("s", bytes_of(fields[0]))
-    whole = called(program, ["list", name])[0]
-    output, errors, calls, _ = called(program, ["list", name], write_most=fields[1], write_fails=fields[2])
+    words = ["list", program.file("s", bytes_of(fields[0]))]
+    whole, _, _ = program.run(b"", words)
+    bounds = dict(zip(("write_most", "write_fails"), fields[1:]))
+    (output, errors, _), calls = program.behind(CALLED, b"", words, **bounds)
     failures = calls.count(["write", "-1"]) if errors == b"mixrev: T3 write failed\n" else 0
     return f"failures {failures}, bytes {len(output)}, a beginning: {str(whole.startswith(output)).lower()}"
 
 
 def read(program, text, **bounds):
     """Each read of a source that is this text, with what it gave; the last ones are not made after one that failed."""
-    _, errors, calls, _ = called(program, ["list", "-"], text, **bounds)
+    (_, errors, _), calls = program.behind(CALLED, text, ["list", "-"], **bounds)
     gave = [int(it[1]) for it in calls if it[0] == "read"]
     return gave, errors == b"mixrev: T2 read failed: -\n"
 
@@ -61,9 +47,8 @@ def failed_read(program, fields, _):
 def read_without_end(program, fields, _):
     """A source of so many bytes, with an end, since a listing shows it."""
     source = b"*" + b"x" * (int(fields[0]) - 1)
-    listed = program.run(["list", program.file("s", source + b"\n END")])[0]
-    line = listed.split(b"\n")[0][31:]
-    return f"{len(line)}, each as it should be: {str(set(line[1:]) == {120}).lower()}"
+    line = program.listing(source + b"\n END").split("\n")[0][31:]
+    return f"{len(line)}, each as it should be: {str(set(line[1:]) == {'x'}).lower()}"
 
 
 # Commands whose replies have so many bytes.
@@ -73,7 +58,8 @@ REPLIES = {3: ["set over off"], 10: ["show changes"], 11: ["show clock", "", "se
 def written(program, script, deck=b"", **bounds):
     """How many bytes each write of the replies took, what was written, and whether a write is reported to have failed."""
     script = "".join(f"{line}\n" for line in script).encode()
-    output, errors, calls, _ = called(program, [], b" END 0\n" + deck + b"%SCRIPT\n" + script, **bounds)
+    bundle = b" END 0\n" + deck + b"%SCRIPT\n" + script
+    (output, errors, _), calls = program.behind(CALLED, bundle, **bounds)
     return [int(it[1]) for it in calls if it[0] == "write"], output, errors == b"mixrev: T3 write failed\n"
 
 

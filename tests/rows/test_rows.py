@@ -5,8 +5,6 @@ name. Each kind of row has a function that makes a run of the input, and reads f
 beside this one, *.rows; what is wanted there is from the book, or worked by hand from the rules in docs/. A row stands only where a run can show
 what it wants. Empty lines and those that begin with `#` are no rows."""
 import pathlib
-import shutil
-import tempfile
 
 import pytest
 
@@ -16,18 +14,14 @@ from tests.rows.faces import Program
 
 PARTS = (line_rows, word_rows, operation_rows, mixal, expression_rows, sources, stream_rows, steps, decks, tool)
 KINDS = {kind: answer for part in PARTS for kind, answer in part.KINDS.items()}
-NEED_CC = {*stream_rows.KINDS, "run printed", "tool plan"}
 
 
 @pytest.fixture(scope="module")
-def shown(request):
+def shown(program, place):
     """The program, with a folder for the files of its runs."""
-    with tempfile.TemporaryDirectory(dir="/dev/shm" if pathlib.Path("/dev/shm").is_dir() else None) as folder:
-        yield Program(request.config.getoption("--program"), folder)
+    return Program(program, place)
 
 
 @pytest.mark.parametrize("kind, fields, wanted", params(pathlib.Path(__file__).parent))
 def test_row(shown, kind, fields, wanted):
-    if kind in NEED_CC and not shutil.which("cc"):
-        pytest.skip(f"{kind}: no C compiler is there")
     assert KINDS[kind](shown, fields, wanted) == wanted

@@ -1,10 +1,8 @@
 """Kinds of rows of the program as a whole: sessions, runs that print, and the files of each plan."""
-import os
 import re
 
 from tests.adapter.frames import framed, messages
 from tests.rows.faces import bytes_of
-from tests.rows.stream_rows import called
 
 STEPS = 9
 
@@ -44,7 +42,7 @@ def completing(program, fields, _):
     source, line = fields
     asked = [("initialize", {}), ("launch", {"sourceText": bytes_of(source).decode(), "stopOnEntry": True}), ("configurationDone", {}),
              ("completions", {"text": line, "column": len(line) + 1}), ("disconnect", {})]
-    output, _, _ = program.run(["dap"], framed(*asked))
+    output, _, _ = program.run(framed(*asked), ["dap"])
     return " ".join(target["label"] for message in messages(output) if message.get("command") == "completions" for target in message["body"]["targets"])
 
 
@@ -68,18 +66,22 @@ def printed(program, fields, _):
     if "keep" in asked:
         words += ["--keep", "k"]
     shown = words + (UNITS[units] if units != "none" else ["--unit", "20"] if "(20)" not in source else ["--counts"])
-    whole, *others = (called(program, shown, read_most=size, write_most=size)[:2] for size in (1 << 20, 1, 7))
+    whole, *others = (
+        program.behind("CALLED_TO", b"", shown, read_most=size, write_most=size)[0][:2]
+        for size in (1 << 20, 1, 7)
+    )
     if others != [whole, whole]:
         return "another by few bytes a call"
     output, errors = (text.decode() for text in whole)
     text = "" if "--counts" in shown else output
     errors = errors.split("\n")[:-1]
-    told = [escaped(open(os.path.join(program.folder, "k")).read())] if "keep" in asked else []
+    told = [escaped((program.place / "k").read_text())] if "keep" in asked else []
     if errors and errors[0].startswith("mixrev: "):
         return f"{escaped(text)}, failed: {errors[0].removeprefix('mixrev: ')}"
     end, first = ended(errors)
     if not end:
-        traced = program.run([word for word in words if word != "--trace"] + ["--trace", "--unit", "20"])[0].decode()
+        words = [*(word for word in words if word != "--trace"), "--trace", "--unit", "20"]
+        traced = program.run(b"", words)[0].decode()
         rows = re.findall(r"(?m)^ *\d+  (\d{4})  .{17} +(\d+)u", traced)
         end = f"halted at {int(rows[-1][0]) + 1}, clock {sum(int(time) for _, time in rows)}" if rows else "halted at 0, clock 0"
     if ", line" not in end and "no line" not in end:
@@ -148,18 +150,13 @@ def option(word, name):
 def planned(program, fields, wanted):
     """The names of the files that are opened, in their order, and of those that are created."""
     line, given, *files = fields
-    for name in os.listdir(program.folder):
-        if len(name) == 1:
-            os.unlink(os.path.join(program.folder, name))
+    for path in program.place.glob("?"):
+        path.unlink()
     for file in reversed(files):  # the first of a name is the one that is there
         name, text = file.split("=", 1)
         program.file(name, bytes_of(text))
-    opened = os.path.join(program.folder, "opened")
-    if os.path.exists(opened):
-        os.unlink(opened)
-    words = words_of(line)
-    output, errors, _, status = called(program, words, bytes_of(given), opened_to=opened)
-    calls = [it.split(" ") for it in open(opened).read().split("\n")[:-1]] if os.path.exists(opened) else []
+    answer, calls = program.behind("OPENED_TO", bytes_of(given), words_of(line))
+    output, errors, status = answer
     asked = [name for way, name, _ in calls if way == "read" and "/" not in name]
     # a file is written beside its place under another name, and then gets its own
     created = []

@@ -1,4 +1,4 @@
-"""Kinds of rows of words and of arithmetic."""
+"""Kinds of rows of words. Arithmetic is in the rows of steps."""
 import re
 
 from tests.rows.faces import bytes_of, number
@@ -22,23 +22,6 @@ def of_bytes(program, fields, _):
     return program.value(f"{sign}{first}(0:1)" + "".join(f",{byte}({at}:{at})" for at, byte in enumerate(others, 2)))[0]
 
 
-def machine(program, source, script, cells=(), **registers):
-    """The registers, by their names, and what else `show regs` says, after a script on a source with some words in its registers and cells."""
-    set_up = [f"set {name} {number(word)}" for name, word in registers.items()] + [f"set cell {cell} {number(word)}" for cell, word in cells]
-    lines = program.replies(source.encode(), [*set_up, *script, "show regs"])[-10:]
-    return {**{line[:2].strip(): line[3:] for line in lines[:9]}, **dict(zip(*[iter(lines[9].split())] * 2))}
-
-
-def after(program, line, cells=(), **registers):
-    """The same after one instruction."""
-    return machine(program, f" {line}\n END 0\n", ["step"], cells, **registers)
-
-
-def at_1000(program, line, word, **registers):
-    """The same, where cell 1000 has a word."""
-    return after(program, f"{line} 1000", [(1000, word)], **registers)
-
-
 def equal(program, fields, _):
     one, other = map(number, fields)
     line = program.replies(END, [f"set A {one}", f"set A {other}", "show last 1"])[-1]
@@ -55,12 +38,6 @@ def parts(program, fields, _):
 def of_parts(program, fields, _):
     sign, address, index, f, c = fields
     return program.replies(f" {name_of(c)} {sign}{address},{index}({f})\n END 0\n".encode(), ["show cells 0 0"])[0][5:]
-
-
-def put_field(program, fields, _):
-    word, f, value = fields
-    script = [f"set A {number(value)}", f"set cell 1000 {number(word)}", "step", "show cells 1000 1000"]
-    return program.replies(f" STA 1000({f})\n END 0\n".encode(), script)[-1][5:]
 
 
 def ends(program, f):
@@ -99,51 +76,25 @@ def characters(program, fields, _):
     return "[" + "".join(program.value(str(code))[2][4] for code in range(first, last + 1)) + "]"
 
 
-def with_overflow(state, a):
-    return a + " overflow" * (state["over"] == "on")
-
-
-def sum_of(operation):
-    def summed(program, fields, _):
-        state = at_1000(program, operation, fields[1], A=fields[0])
-        return with_overflow(state, state["A"])
-    return summed
-
-
-def pair(state):
-    return f"{state['A']}, {state['X']}"
-
-
-def quotient(program, fields, _):
-    state = at_1000(program, "DIV", fields[2], A=fields[0], X=fields[1])
-    return "overflow" if state["over"] == "on" else pair(state)
-
-
-def num(program, fields, _):
-    state = after(program, "NUM", A=fields[0], X=fields[1])
-    return with_overflow(state, str(int(number(state["A"]))))
-
-
 KINDS = {
     "word written": lambda program, fields, _: program.value(number(fields[0]))[0],
     "word bytes": lambda program, fields, _: " ".join(str(int(byte)) for byte in program.value(number(fields[0]))[0].split()[1:]),
     "word number": lambda program, fields, _: str(program.value(number(fields[0]))[1]),
-    "word natural": natural, "word of number": lambda program, fields, _: program.value(fields[0])[0], "word of bytes": of_bytes,
-    "word byte": lambda program, fields, _: str(abs(int(number(after(program, f"LDA 1000({fields[1]}:{fields[1]})", [(1000, fields[0])])["A"])))),
+    "word natural": natural,
+    "word of number": lambda program, fields, _: program.value(fields[0])[0],
+    "word of bytes": of_bytes,
     "word sign": lambda program, fields, _: program.value(number(fields[0]))[0][0],
-    "word opposite": lambda program, fields, _: after(program, f"ENNA {fields[0]}1")["A"][0],
-    "word negated": lambda program, fields, _: at_1000(program, "LDAN", fields[0])["A"],
-    "word zero": lambda program, *_: machine(program, " END 0\n", [])["X"], "word equal": equal, "word parts": parts, "word of parts": of_parts,
-    "word field value": lambda program, fields, _: after(program, f"LDA 1000({fields[1]})", [(1000, fields[0])])["A"], "word put field": put_field,
+    "word opposite": lambda program, fields, _: program.replies(f" ENNA {fields[0]}1\n END 0\n".encode(), ["step", "show regs"])[1][3],
+    "word zero": lambda program, *_: program.replies(END, ["show regs"])[1][3:],
+    "word equal": equal,
+    "word parts": parts,
+    "word of parts": of_parts,
     "word field": lambda program, fields, _: ends(program, fields[0]),
-    "word whole field": lambda program, *_: ends(program, int(assembled(program, " LDA 0").split()[4])), "word field code": field_code, "word place": place,
+    "word whole field": lambda program, *_: ends(program, int(assembled(program, " LDA 0").split()[4])),
+    "word field code": field_code,
+    "word place": place,
     "word places": lambda program, fields, _: "not less" if cells(program, *fields)[0] == "?" else "less",
     "word codes": lambda program, fields, _: " ".join(code_of(program, byte) for byte in bytes_of(fields[0])),
-    "word codes of all": lambda program, *_: str(sum(code_of(program, byte) != "none" for byte in range(256))), "word characters": characters,
-    "arithmetic add": sum_of("ADD"), "arithmetic sub": sum_of("SUB"), "arithmetic div": quotient, "arithmetic num": num,
-    "arithmetic mul": lambda program, fields, _: pair(at_1000(program, "MUL", fields[1], A=fields[0])),
-    "arithmetic compare": lambda program, fields, _: {"L": "less", "E": "equal", "G": "greater"}[
-        after(program, f"CMPA 1000({fields[2]})", [(1000, fields[1])], A=fields[0])["cmp"]],
-    "arithmetic shift": lambda program, fields, _: pair(after(program, f"{fields[0]} {fields[1]}", A=fields[2], X=fields[3])),
-    "arithmetic char": lambda program, fields, _: pair(after(program, "CHAR", A=fields[0], X=fields[1])),
+    "word codes of all": lambda program, *_: str(sum(code_of(program, byte) != "none" for byte in range(256))),
+    "word characters": characters,
 }

@@ -10,9 +10,9 @@ import pathlib
 import re
 import subprocess
 
+from tests import TOP
 from tests.students import made, moodle
 
-TOP = pathlib.Path(__file__).resolve().parent.parent.parent
 GRADE = TOP / "grade"
 NO_SOURCE = ("two sources", "two pictures", "a damaged file", "a Word document", "an online text")  # the others are sources that are refused
 

@@ -1,13 +1,11 @@
 """Talks with the program at a terminal and over a pipe. Each test has a folder, in which there is a source a.mixal."""
-import pathlib
 import subprocess
 import types
 
 import pytest
 
+from tests import TOP
 from tests.terminal.talking import GREETING, SECONDS, SOURCE, Terminal
-
-TOP = pathlib.Path(__file__).resolve().parents[2]
 
 
 @pytest.fixture

@@ -1,5 +1,4 @@
 """Talks over a pipe, and the line editor of mixrev-debug."""
-import pathlib
 import re
 import shutil
 import subprocess
@@ -8,9 +7,8 @@ import time
 import pexpect
 import pexpect.fdpexpect
 import pytest
+from tests import TOP
 from tests.terminal.talking import GREETING, PROMPT, SECONDS, Terminal
-
-TOP = pathlib.Path(__file__).resolve().parents[2]
 
 
 def test_byte_by_byte(program, folder):

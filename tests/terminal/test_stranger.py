@@ -5,6 +5,8 @@ import subprocess
 
 import pytest
 
+from tests.adapter.frames import frame, framed
+
 # What they ask for: lines of a script, of the console of an editor, and an editor's settings.
 LINES = [
     *("save stolen", "save! stolen", "source session", "reload", "keep stolen", "svg stolen"),
@@ -32,19 +34,10 @@ CALLS = (
 )
 
 
-def framed(*messages):
-    bodies = [json.dumps(message) for message in messages]
-    return "".join(f"Content-Length: {len(body)}\r\n\r\n{body}" for body in bodies)
-
-
-def asked(at, name, what):
-    """A request to the debug adapter."""
-    return {"seq": at, "type": "request", "command": name, "arguments": what}
-
-
 def called(at, name, what):
     """A request to the language server."""
-    return {"jsonrpc": "2.0", "id": at, "method": name, "params": what}
+    message = {"jsonrpc": "2.0", "id": at, "method": name, "params": what}
+    return frame(json.dumps(message).encode()).decode()
 
 
 WAYS = {
@@ -54,8 +47,8 @@ WAYS = {
     "check bundle session": "",
     "debug bundle session": "",
     "debug bundle --devices cards.deck": SCRIPT,
-    "dap": framed(*(asked(at, *one) for at, one in enumerate(TALK, 1))),
-    "lsp": framed(*(called(at, *one) for at, one in enumerate(SERVED, 1))),
+    "dap": framed(*TALK).decode(),
+    "lsp": "".join(called(at, *one) for at, one in enumerate(SERVED, 1)),
 }
 
 

@@ -2,6 +2,8 @@
 import pathlib
 
 import pexpect
+import pytest
+
 from tests.terminal.talking import GREETING, Terminal
 
 FIRST = "0000  + 00 05 00 02 48  ENTA 5                 1   ENTA 5\n"
@@ -17,7 +19,7 @@ LAST = "      2  3999  NOP                  1u\n"
 def typed(name):
     """The rows of typed.txt with this name."""
     rows = pathlib.Path(__file__).with_name("typed.txt").read_text().partition(f"== {name}\n")[2].partition("== ")[0]
-    return [row.replace("\\t", "\t").split("|") for row in rows.splitlines()]
+    return [row.replace("\\t", "\t").replace("\\n", "\n").split("|") for row in rows.splitlines()]
 
 
 def test_in_turn(talk):
@@ -189,3 +191,17 @@ def test_refused_source(program, folder):
     terminal = Terminal(program, "debug", "a.mixal", folder=folder)
     assert terminal.seen(pexpect.EOF) == "a.mixal:2:3: error: A2 no such operation: JUMP\nX JUMP 3 what\n  ^^^^\nline 2: A2 no such operation\n"
     assert terminal.wait() == 1
+
+
+@pytest.mark.parametrize("line, answer", typed("first"))
+def test_first_line(talk, line, answer):
+    """What a person of another debugger types first does what is meant, or the answer says what a
+    command takes. Words that are none here are in tests/runs/help.t."""
+    terminal = talk()
+    terminal.said("step 3")
+    if answer == "ends":
+        assert terminal.end(f"{line}\n") == 0
+    else:
+        seen = terminal.said(line)
+        assert seen == answer[1:] if answer[:1] == "=" else answer in seen
+        assert terminal.end() is not None
