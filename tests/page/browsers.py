@@ -34,7 +34,7 @@ def slowed():
 
 
 class Chromium(Page):
-    started = None  # one for all tests, each of which has a tab of its own
+    """One for all tests, each of which has a tab of its own."""
 
     @staticmethod
     def start():
@@ -61,11 +61,6 @@ class Chromium(Page):
         self.leave()
         self.driver.close()
         self.folder.cleanup()
-
-    @classmethod
-    def end(cls):
-        if cls.started:
-            cls.started.quit()
 
     def command(self, name, **given):
         return self.driver.execute_cdp_cmd(name, given)
@@ -171,7 +166,7 @@ class Marionette:
         self.number, self.wire = 0, self.reached(port)
         self.received()
 
-    def end(self):
+    def quit(self):
         self.firefox.terminate()
         self.firefox.wait()
 
@@ -216,8 +211,6 @@ class Marionette:
 
 
 class Firefox(WebKit):
-    started = None
-
     def begun(self):
         Firefox.started = Firefox.started or Marionette()
         driver = webdriver.Remote(command_executor=Firefox.started, options=FirefoxOptions())
@@ -230,8 +223,3 @@ class Firefox(WebKit):
         wide, high = self.script("return [outerWidth - innerWidth, outerHeight - innerHeight]")
         super().size(width + wide, height + high)
         return self
-
-    @classmethod
-    def end(cls):
-        if cls.started:
-            cls.started.end()

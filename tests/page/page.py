@@ -13,6 +13,8 @@ from tests.page.looks import EXAMPLES, SECONDS, STAGE, Looks
 
 
 class Page(Looks):
+    started = None  # the browser, where all pages have one
+
     def __init__(self, address, width=1280, height=900):
         self.address = address
         self.folder = tempfile.TemporaryDirectory()
@@ -28,9 +30,10 @@ class Page(Looks):
         self.driver.quit()
         self.folder.cleanup()
 
-    @staticmethod
-    def end():
-        """Ends what all pages have in common."""
+    @classmethod
+    def end(cls):
+        if cls.started:
+            cls.started.quit()
 
     def go(self, address):
         """Opens an address, without the tour for who opens the page first."""

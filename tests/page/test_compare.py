@@ -1,7 +1,6 @@
 """Two runs side by side, worked out by hand: other cards, another program, and commands."""
 from tests.page.looks import PROGRAMS
 
-# Six changes: one more than the first character of a card, A = 1 or B = 2, to cell 200; the card is printed.
 FIRST = PROGRAMS["card"]
 CARD = f"{FIRST}%DEVICES\n%UNIT 16\nA\n"
 MANY = " ENTA 1\n ENT1 200\n STA 500,1\n DEC1 1\n J1P 2\n HLT\n END 0\n"

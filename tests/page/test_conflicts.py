@@ -1,9 +1,6 @@
 """Runs that stop at a step which conflicts with a transfer. The clocks are worked out by hand: an OUT takes 1 u, then its unit is busy for the delay."""
 from tests.page.looks import PROGRAMS, kept
 
-# The OUT is over at 1, so the line is printed until 51. Change 4 begins at 3 and alters a cell of
-# it; change 5 alters the cell behind it. The JBUS is executed at 7 to 51, by changes 6 to 50, and
-# change 51 is right. The second OUT is over at 55, and change 53 begins then; change 54 is the HLT.
 LINE = PROGRAMS["conflicts"]
 DELAY = "%DEVICES\n%UNIT 18 delay 50\n"
 FIRST = "Conflict: cell 2001 is altered while unit 18 prints it until 51. "

@@ -76,9 +76,7 @@ def test_tour(page):
         assert page.script("return location.hash").startswith(("#no-tour", "#mix=")), width
     page.size(1280, 800).go(first).click("tour-next", "tour-back")
     assert page.js("tour")[0] == "Tour, 1 of 6", "one step back"
-    page.one("tour-close").click()
-    page.driver.refresh()
-    page.until(lambda: page.js("isIdle"), 30)
+    page.click("tour-close").again()
     assert (page.is_seen("tour"), page.script("return location.hash")) == (False, "#no-tour"), "not again"
     page.click("help", "tour-open")
     assert (page.is_seen("tour"), page.js("active")) == (True, "tour-next"), "from the help"

@@ -3,7 +3,6 @@ import xml.etree.ElementTree as tree
 
 from tests.page.looks import PROGRAMS
 
-# Three nodes of a key and a link; then rI1 and rI2 point to the first two, and the last is linked to the first.
 SOURCE = PROGRAMS["nodes"]
 ASKED = "from POOL to POOL+5, 2 words each, label 0, links 1(4:5), heads HEAD(4:5)"
 NODES = ["1000: 5; links 1002.", "1002: 7; links 1004.", "1004: 9; links nil.", "HEAD(4:5) leads to 1000."]

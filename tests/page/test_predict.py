@@ -46,8 +46,7 @@ def answer(page, guess):
 def begin(page, text=PROGRAM):
     """A program of one's own, with questions."""
     page.own(text)
-    if not page.one("predict").is_selected():
-        page.click("predict")
+    return page if page.one("predict").is_selected() else page.click("predict")
 
 
 def test_kinds(page, native):
@@ -75,8 +74,7 @@ def test_kinds(page, native):
 
 def test_hidden(page):
     """What the page says of the next step elsewhere does not give the answer away, and is there when nothing is asked."""
-    begin(page, " STA 100\n ENTA 5\n STA 100(2:2)\n LDA 4000\n END 0\n")
-    page.put("cells-to", "100").click(*["step"] * 2)
+    begin(page, " STA 100\n ENTA 5\n STA 100(2:2)\n LDA 4000\n END 0\n").put("cells-to", "100").click(*["step"] * 2)
     assert (page.text("next"), page.js("will")) == ("Next: 3 STA 100(2:2).", [])
     page.click("predict")
     told = "Next: 3 STA 100(2:2): cell 100(2:2) becomes rA: cell 100 from 0 to 1310720."
@@ -109,8 +107,7 @@ def test_asked_small(page):
 
 def test_skipped(page, native):
     """A step without an answer is counted as neither, going back takes no point away, and what is done again is not asked."""
-    begin(page)
-    page.click("step")
+    begin(page).click("step")
     assert (page.told(), page.text("score")) == ("Did 2 ENTA 5: rA from 0 to 5 (1 u).", "")
     page.one("guess").send_keys("12")
     page.press(Keys.F8)
@@ -159,8 +156,7 @@ def test_saved(page, native):
 
 def test_by_keys(page):
     """Without a mouse: the switch, the answers, and the focus, which stays with them."""
-    begin(page)
-    page.click("predict").do("focus", ".skip")
+    begin(page).click("predict").do("focus", ".skip")
     for _ in range(60):
         if page.active() != "predict":
             page.press(Keys.ESCAPE, Keys.TAB)

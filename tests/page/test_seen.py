@@ -5,8 +5,6 @@ import pytest
 
 from tests.page.looks import PROGRAMS, TOP
 
-SORT = PROGRAMS["sort"]
-
 
 def test_output(page):
     """What is printed is in view beside the program, with its first new row, and the status counts the rows."""
@@ -53,7 +51,7 @@ def test_lesson(page):
     for width in (1280, 375, 641):
         page.size(width, 720).until(lambda: page.js("apart") < 1)
         assert page.js("apart") < 1, width
-    page.size(1280, 720).program(SORT).tab("symbols")
+    page.size(1280, 720).program(PROGRAMS["sort"]).tab("symbols")
     symbols = [row[:3] for row in page.js("rows", "#symbol-rows tr")]
     assert symbols[:3] == [["N", "3", "+ 00 00 00 00 03"], ["KEY", "999", "+ 00 00 00 15 39"], ["START", "3000", "+ 00 00 00 46 56"]]
     assert page.js("coloured", 8) == [["START", "entity"], ["LDX", "support"], ["KEY", "variable"], ["+", "keyword-operator"], ["1", "constant"]]
@@ -61,7 +59,7 @@ def test_lesson(page):
 
 def test_memory_shown(page):
     """Cells around M where the next step uses a cell; else what was shown stays."""
-    page.program(SORT)
+    page.program(PROGRAMS["sort"])
     found = []
     for _ in range(4):
         found.append((page.js("given", "#cell-rows .here", "data-cell"), page.js("firstCell")[0]))

@@ -1,8 +1,6 @@
 """The counts of the book beside those of the run, and the passages of a line, as tables: for a loop whose course follows from the rules of the book."""
 from tests.page.looks import PROGRAMS
 
-# Three times through the loop; J1P is done as often as DEC1, so the formula of its line is wrong.
-SOURCE = PROGRAMS["formulas"]
 HERE = "#passages-rows [aria-current=step]"
 
 
@@ -15,7 +13,7 @@ def kinds(page, name):
 
 
 def open_table(page, name):
-    page.own(SOURCE).click("run").caret(3)
+    page.own(PROGRAMS["formulas"]).click("run").caret(3)
     page.do("open", f"{name}-box").press().until(lambda: rows(page, name)).idle()
 
 

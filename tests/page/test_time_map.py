@@ -7,7 +7,6 @@ from selenium.webdriver.common.keys import Keys
 from tests.page.browsers import slowed
 from tests.page.looks import PROGRAMS
 
-# The changes are ENT1, then three times OUT, which prints a row, DEC1 and J1P, then HLT.
 SOURCE = PROGRAMS["printing"]
 ROWS = [0, *[1, 1, 1] * 3, 1]  # of the eleven changes: START, and LOOP with the lines below it
 PRINTED = [2, 5, 8]
