@@ -38,7 +38,7 @@ export class Listing {
     on("columns", "click", () => this.shut(!this.isShut));
     onResize($("listing"), () => {
       this.cm.refresh();
-      this.source.reveal(this.marked);
+      this.reveal();
     });
     window.addEventListener("beforeprint", () => this.print());
   }
@@ -131,6 +131,7 @@ export class Listing {
     mark($("columns"), "aria-pressed", !isShut);
     $("source").classList.toggle("shut", isShut);
     this.cm.refresh();
+    this.reveal();
   }
 
   // Marks the line at the location, or that of a HLT which was done, and the one that was left.

@@ -12,6 +12,9 @@ def pytest_addoption(parser):
     parser.addoption("--examples", type=int, help="how many inputs each random test draws")
     parser.addoption("--full", action="store_true", help="what takes long, too")
     parser.addoption("--again", metavar="FILE", help="the program of tests/hostile/again")
+    parser.addoption("--page", metavar="FILE", help="the page, or docs/mixrev.html")
+    parser.addoption("--firefox", action="store_true", help="test the page in Firefox")
+    parser.addoption("--webkit", action="store_true", help="test the page in WebKit")
 
 
 @pytest.fixture(scope="session")
