@@ -34,6 +34,7 @@ fn run_plan(alloc: Global, words: &ArgMatches<'_>) -> Result<RunPlan, AllocError
         trace: words.get_flag("trace"),
         registers: words.get_flag("registers"),
         strict: words.get_flag("strict"),
+        tells_halt: false,
         keep: optional(alloc, words, "keep")?,
         svg: optional(alloc, words, "svg")?,
         table: table(words),

@@ -21,6 +21,8 @@ pub struct RunPlan {
     pub registers: bool,
     /// Whether the run ends before the first step that conflicts with a transfer under way.
     pub strict: bool,
+    /// Whether standard error says where the program halted, and why nothing of it is to be seen.
+    pub tells_halt: bool,
     /// The file in which the deck of what the units hold at the end is saved.
     pub keep: Option<String>,
     /// The file in which the map of the steps is saved, an SVG picture.

@@ -33,7 +33,7 @@ pub use mix_session::{
 };
 pub use opener::{Opener, Unread, Unsaved};
 pub use print::options::{AskedTable, PrintOptions, TableOf, UnitSet};
-pub use print::{ConflictAt, Conflicts, PrintAnswer, Printed, RanTo, RunEnd, run_printed};
+pub use print::{ConflictAt, Conflicts, PrintAnswer, Printed, RanTo, RunEnd, Shows, run_printed};
 pub use reason::Reason;
 pub use replaces::{Replaces, may_go};
 pub use run::{DebugOptions, run_debug};

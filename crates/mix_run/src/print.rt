@@ -42,11 +42,21 @@ pub enum PrintAnswer {
     NoTable(Refusal),
 }
 
-/// What a run leaves: its answer, the deck of what its units hold, and its map; both are empty where
-/// they are not asked for.
+/// What stands in the rows that a run printed: there are none, they are all blank, or there are
+/// letters in them.
+#[derive(Clone, Copy, PartialEq, Eq)]
+pub enum Shows {
+    Nothing,
+    Blanks,
+    Letters,
+}
+
+/// What a run leaves: its answer, what stands in the rows of the units that are asked for, the deck
+/// of what its units hold, and its map; both are empty where they are not asked for.
 #[derive(Drop)]
 pub struct Printed {
     pub answer: PrintAnswer,
+    pub shows: Shows,
     pub deck: Vec<u8>,
     pub map: Vec<u8>,
 }
@@ -79,6 +89,7 @@ pub fn run_printed<W: Out>(
     match end_table_asked(alloc, options.table, subject)? {
         Err(refusal) => Ok(Printed {
             answer: PrintAnswer::NoTable(refusal),
+            shows: Shows::Nothing,
             deck: Vec::new(alloc),
             map: Vec::new(alloc),
         }),

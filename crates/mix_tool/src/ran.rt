@@ -1,6 +1,6 @@
 //! What is answered of a run, and what is told of it.
 
-ghost use Rattle.std.specs.Prelude.{◌≡◌, IfOk, codes, option_map, string_bytes};
+ghost use Rattle.std.specs.Prelude.{◌≡◌, IfOk, codes, false, option_map, string_bytes};
 ghost use Rattle.mix_machine.specs.Fault.{fault_line};
 ghost use Rattle.mix_tool.specs.Ending.{answer_of, status_of_end, status_of_print};
 ghost use Rattle.mix_tool.specs.Run.{subject_of};
@@ -13,10 +13,11 @@ use mix_cli::FAILED;
 use mix_machine::MixFault;
 use mix_plan::RunPlan;
 use mix_run::{
-    Conflict, DONE, NOT_DONE, PrintAnswer, Printed, RanTo, RunEnd, SOURCE_REFUSED, ToolFault,
+    Conflict, DONE, NOT_DONE, PrintAnswer, Printed, RanTo, RunEnd, SOURCE_REFUSED, Shows, ToolFault,
 };
 use mix_session::Refusal;
 use mix_stream::Out;
+use mix_word::Location;
 use std::alloc::{AllocError, Global};
 
 // Where a run came to, and why it ends there: `prog.mixal:2: steps used up at 0001 clock 1`.
@@ -96,6 +97,42 @@ fn no_table_line(alloc: Global, subject: &str, refusal: Refusal) -> Result<Strin
 {
     let text = format!(in alloc; "mixrev: {refusal}: {subject}\n")?;
     Ok(text)
+}
+
+// A halt, the time of the program, and why nothing of it is to be seen: `prog.mixal: halted at 0002
+// after 13 u; nothing was printed: ..`.
+fn halt_line(alloc: Global, name: &str, ran: &RanTo, shows: Shows) -> Result<String, AllocError> {
+    let (loc, clock) = (Location(ran.loc), ran.clock);
+    let seen = match shows {
+        Shows::Nothing => "; nothing was printed: no OUT to units 17 to 20 was done",
+        Shows::Blanks => "; only blank rows were printed: the cells that OUT wrote are +0",
+        Shows::Letters => "",
+    };
+    format!(in alloc; "{name}: halted at {loc} after {clock} u{seen}\n")
+}
+
+/// Where a program halted is told, if that is asked for, and no table is; it comes before all else
+/// that is told of its run.
+pub(crate) fn tell_halt<E: Out>(
+    alloc: Global,
+    plan: &RunPlan,
+    printed: &Result<Printed, ToolFault>,
+    errors: &mut E,
+)
+    ensures { plan.now.tells_halt ≡ false → errors.new ≡ errors.old }
+{
+    if !plan.tells_halt || plan.table.is_some() {
+        return;
+    }
+    let Ok(printed) = printed else {
+        return;
+    };
+    if let PrintAnswer::Ran(ran) = &printed.answer {
+        if matches!(ran.end, RunEnd::Halted) {
+            let line = halt_line(alloc, plan.source.as_str(), ran, printed.shows);
+            tell_beside(line, errors);
+        }
+    }
 }
 
 /// The status of what a run answers. A fault of the tool is told, and why there is no table of what

@@ -9,13 +9,13 @@ ghost use Rattle.mix_tool.specs.Run.{Given, Prints, run_draws, run_output, witho
 
 use crate::asked::{options_of, subject_of};
 use crate::keep::{save_files, taken, tell_taken};
-use crate::ran::print_status;
+use crate::ran::{print_status, tell_halt};
 use crate::read::{RunFault, of_file, read_text, units_of_run};
 use crate::texts::Texts;
 use mix_files::{MAX_BUNDLE_BYTES, parts_of};
 use mix_plan::RunPlan;
 use mix_refused::Refused;
-use mix_run::{Opener, PrintAnswer, Printed, Streams, ToolFault, run_printed, tell_report};
+use mix_run::{Opener, PrintAnswer, Printed, Shows, Streams, ToolFault, run_printed, tell_report};
 use mix_stream::{In, Out};
 use mixal_asm::assemble;
 use std::alloc::Global;
@@ -50,6 +50,7 @@ fn print_texts<'p, T: In, R, W: Out, E: Out>(
             tell_report(alloc, source, parts.source, &mut streams.errors);
             Ok(Printed {
                 answer: PrintAnswer::Refused(fault),
+                shows: Shows::Nothing,
                 deck: Vec::new(alloc),
                 map: Vec::new(alloc),
             })
@@ -109,6 +110,7 @@ pub(crate) fn run_texts<O: Opener, R: In, W: Out, E: Out>(
     let mut texts = texts;
     let ran = print_texts(alloc, plan, &mut texts, streams);
     let (printed, file) = parted(ran, plan.source.as_str());
+    tell_halt(alloc, plan, &printed, &mut streams.errors);
     let status = print_status(alloc, plan, &printed, Some(file), &mut streams.errors);
     save_files(files, alloc, plan, &printed, status, &mut streams.errors)
 }

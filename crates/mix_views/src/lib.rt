@@ -38,11 +38,11 @@ pub fn view_of(alloc: Global, session: &Session, typed: &[u8]) -> Result<Option<
     }
 }
 
-fn view_named(
+fn view_named<'a>(
     alloc: Global,
-    session: &Session,
+    session: &'a Session,
     name: &[u8],
-    rest: &[u8],
+    rest: &'a [u8],
 ) -> Result<Option<Vec<u8>>, Memory>
     ensures { IfOk result (λ said. is_some said ≡ is_view_named session.now name.now (words rest.now)) }
 {

@@ -68,7 +68,7 @@ fn counted(
         session.program(),
         session.world(),
         stepped,
-        options.keep,
+        options,
         map,
     )?;
     Ok((text, printed))

@@ -13,7 +13,7 @@ use crate::print::loaded::{left, tell_steps};
 use crate::print::options::PrintOptions;
 use crate::print::part::{cell_named, step_table};
 use crate::print::tabled::StepTable;
-use crate::print::{PrintAnswer, Printed};
+use crate::print::{PrintAnswer, Printed, Shows};
 use mix_machine::Units;
 use mix_map::{columns_of, map_of};
 use mix_refused::Memory;
@@ -41,6 +41,7 @@ pub(super) fn tell_loaded<W: Out>(
     match step_table(&session, options.table, part, &cell) {
         Err(refusal) => Ok(Printed {
             answer: PrintAnswer::NoTable(refusal),
+            shows: Shows::Nothing,
             deck: Vec::new(alloc),
             map: Vec::new(alloc),
         }),
@@ -65,7 +66,7 @@ fn tell_session<W: Out>(
     let mut world = session.world_at(alloc, 0)?;
     let stepped = tell_steps(alloc, session.program(), &mut world, table, options, out)?;
     let map = draw_steps(alloc, session, options, world.clock())?;
-    let printed = left(alloc, session.program(), &world, stepped, options.keep, map)?;
+    let printed = left(alloc, session.program(), &world, stepped, options, map)?;
     Ok(printed)
 }
 

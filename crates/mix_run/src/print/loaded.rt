@@ -7,6 +7,7 @@ ghost use Rattle.mix_run.specs.Print.{counted, line_at, registers_if, run_of};
 use crate::fault::ToolFault;
 use crate::keep::keep_units;
 use crate::print::options::PrintOptions;
+use crate::print::rows::shows_of;
 use crate::print::steps::{RunEnd, Stepped, print_steps};
 use crate::print::tabled::{StepTable, write_table};
 use crate::print::watch::Conflicts;
@@ -58,15 +59,15 @@ pub(super) fn left(
     program: &Program,
     world: &World,
     stepped: Stepped,
-    keep: bool,
+    options: PrintOptions,
     map: Vec<u8>,
 ) -> Result<Printed, Memory>
     ensures answer { IfOk result (λ p. p.answer ≡ Ran (came_to program.now stepped.end world.now stepped.conflicts)) }
-    ensures deck { IfOk result (λ p. p.deck.items ≡ kept_if keep world.now) }
+    ensures deck { IfOk result (λ p. p.deck.items ≡ kept_if options.keep world.now) }
     ensures map { IfOk result (λ p. p.map ≡ map) }
 {
     let mut deck = Vec::new(alloc);
-    keep_units(alloc, world, keep, &mut deck)?;
+    keep_units(alloc, world, options.keep, &mut deck)?;
     let Stepped { end, conflicts } = stepped;
     let (loc, clock) = (world.loc(), world.clock());
     let line = line_at(program, loc);
@@ -82,6 +83,7 @@ pub(super) fn left(
             conflicts,
             conflict_line,
         }),
+        shows: shows_of(world, options.units),
         deck,
         map,
     })
@@ -156,13 +158,6 @@ pub(super) fn print_loaded<W: Out>(
 {
     let mut world = World::load(alloc, program.words(), program.start(), units)?;
     let stepped = print_run(alloc, &mut world, options, out)?;
-    let printed = left(
-        alloc,
-        program,
-        &world,
-        stepped,
-        options.keep,
-        Vec::new(alloc),
-    )?;
+    let printed = left(alloc, program, &world, stepped, options, Vec::new(alloc))?;
     Ok(printed)
 }

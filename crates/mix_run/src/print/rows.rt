@@ -5,6 +5,7 @@ ghost use Rattle.mix_machine.specs.World.{unit_at};
 ghost use Rattle.mix_run.specs.Print.{printed_row, printed_from};
 ghost use Rattle.mix_run.specs.PrintSteps.{HasCounts, printed_after};
 
+use crate::print::Shows;
 use crate::print::options::UnitSet;
 use crate::print::row::add_row;
 use mix_machine::{Row, Unit, UnitNo, World};
@@ -94,6 +95,35 @@ fn row_at(unit: &Unit, number: u16) -> &Row
     ensures { result.now ≡ slice_index_or unit.now.rows number None }
 {
     unit.row(number).unwrap()
+}
+
+// Whether letters stand in a row: a page mark has none, and a word of zeros is five blanks.
+fn has_letters(row: &Row) -> bool {
+    match row.words() {
+        None => false,
+        Some(words) => words.iter().any(|word| word.magnitude() > 0),
+    }
+}
+
+// What stands in the rows of some units, and in those of one more, if it is asked for.
+fn shows_with(shows: Shows, unit: &Unit, asked: bool) -> Shows {
+    if !asked || unit.rows() == 0 || shows == Shows::Letters {
+        return shows;
+    }
+    for at in 0..unit.rows() {
+        if unit.row(at).is_some_and(has_letters) {
+            return Shows::Letters;
+        }
+    }
+    Shows::Blanks
+}
+
+/// What stands in the rows of the units that are asked for.
+pub(super) fn shows_of(world: &World, units: UnitSet) -> Shows {
+    let shows = shows_with(Shows::Nothing, unit_at(world, 17), units.card_punch);
+    let shows = shows_with(shows, unit_at(world, 18), units.printer);
+    let shows = shows_with(shows, unit_at(world, 19), units.typewriter);
+    shows_with(shows, unit_at(world, 20), units.paper_tape)
 }
 
 /// The numbers of the rows.
