@@ -124,7 +124,7 @@ fn found_by<'a>(names: &[Named], row: &Row<'a>) -> (Turn, Option<Named<'a>>) {
 /// The values of all names: the given ones, and those that lines give: each time the first line that
 /// gives one, until none does. A line is asked again only where a name of its formula came to have a
 /// value. Only out of memory refuses it.
-pub fn all_values<'a>(
+pub(crate) fn all_values<'a>(
     alloc: Global,
     rows: &[Row<'a>],
     given: &[Named<'a>],

@@ -14,10 +14,9 @@ mod text;
 mod value;
 
 pub use analysis::{Analysis, Judged, Verdict, analysis_of};
-pub use found::all_values;
 pub use given::given_of;
-pub use names::{Named, has_given};
+pub use names::Named;
 pub use rows::Row;
 pub use said::{analysis_text, beside_text, value_text};
 pub use text::bracket_of;
-pub use value::{Value, value_of};
+pub use value::Value;

@@ -43,7 +43,7 @@ pub(crate) fn value_in(names: &[Named], name: &[u8]) -> Option<i64>
 }
 
 /// Whether the count of a line gave a name its value.
-pub fn has_given(names: &[Named], line: usize) -> bool
+pub(crate) fn has_given(names: &[Named], line: usize) -> bool
     ensures { result ≡ has_given (all_named names.now) line }
 {
     let mut rest = names;

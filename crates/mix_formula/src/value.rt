@@ -29,7 +29,7 @@ const DEPTH: u8 = 64;
 /// names, `+`, `-`, `*`, `//` (which rounds down), round brackets, and a sign before a part. Blanks
 /// may be around each of these. Products and quotients are done before sums and differences, and
 /// each of the two kinds from left to right. Of two values of a name the first counts.
-pub fn value_of(formula: &[u8], names: &[Named]) -> Value
+pub(crate) fn value_of(formula: &[u8], names: &[Named]) -> Value
     ensures { result ≡ value_of (all_named names.now) formula.now }
 {
     value_with(formula, &Scope { names, tried: None })
