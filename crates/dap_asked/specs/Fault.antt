@@ -15,7 +15,6 @@ fault_number (fault.Source at) = 100 + kind_number at.kind
 fault_number (fault.Session refusal) = 200 + refusal_number refusal
 fault_number fault.NoSuchRequest = 301
 fault_number fault.BadArgument = 302
-fault_number (fault.Argument which) = 302
 fault_number fault.NotLaunched = 303
 fault_number fault.Launched = 304
 fault_number fault.NoSuchThing = 306

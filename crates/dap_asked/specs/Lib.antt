@@ -1,5 +1,3 @@
-pub mod ArgumentName
-pub mod Arguments
 pub mod Deed
 pub mod Entries
 pub mod Fault

@@ -1,23 +1,13 @@
-//! The arguments of requests: what each has to be, by one table. What is missing there or is something else is refused by its name.
+//! The arguments of requests: whether each is what it has to be.
 
-ghost use Rattle.std.specs.Prelude.{◌≡◌, map};
-ghost use Rattle.std.specs.Option.{option_map};
-ghost use Rattle.serde_json.specs.View.{view};
-ghost use Rattle.dap_asked.specs.Arguments.{argument_flaw, cells_flaw, entries_flaw, entry_flaw, first_flaw, is_form, list_flaw, member_flaw, members_flaw, misread, missing, name_of, object_flaw, source_flaw, wrong};
-
-mod name;
-mod table;
-
-use crate::entry::entries_of;
-use crate::kind::Kind;
-pub use name::ArgumentName;
+use crate::arguments::Form::{Flag, Integer, List, Natural, Object, Text};
+use crate::kind::{Act, Given, Kind, Look, Target};
 use rpc_message::{Request, integer, member_of, natural};
 use serde_json::Value;
-use table::{arguments_of, members_of};
 
 /// What a value has to be.
 #[derive(Clone, Copy)]
-pub(crate) enum Form {
+enum Form {
     Text,
     /// `true` or `false`.
     Flag,
@@ -25,209 +15,178 @@ pub(crate) enum Form {
     Natural(u64),
     /// A whole number of 64 bits with a sign.
     Integer,
+    List,
+    Object,
 }
 
-/// A member of an object, by its name.
+// A whole number, zero or more.
+const ANY: Form = Natural(u64::MAX);
+
+// The code of a field is one byte of MIX.
+const FIELD: Form = Natural(63);
+
+/// An object whose members are looked at.
 #[derive(Clone, Copy)]
-pub(crate) enum Member {
-    /// It has to be there.
-    Needs(ArgumentName, Form),
-    /// It may be missing.
-    May(ArgumentName, Form),
+enum Of<'r> {
+    Arguments(&'r Request),
+    Value(&'r Value),
 }
 
-/// What an entry of a list asks for.
+/// The members of an object, and the name of the first one that is missing or is not what it has to be.
 #[derive(Clone, Copy)]
-pub(crate) enum Entry {
-    /// A breakpoint of a line.
-    Line,
-    /// A breakpoint of an instruction.
-    Instruction,
-    /// A part of the machine that is watched.
-    Part,
-    /// A breakpoint of a function.
-    Function,
-    /// The name of a kind of exceptions.
-    Filter,
+struct Members<'r> {
+    of: Of<'r>,
+    flaw: Option<&'static str>,
 }
 
-/// An argument of a request.
-#[derive(Clone, Copy)]
-pub(crate) enum Argument {
-    /// One value.
-    One(Member),
-    /// The source that a request is about, which may be missing: an object, whose path is a text.
-    Source,
-    /// A list of entries, which has to be there.
-    List(ArgumentName, Entry),
-    /// The ranges of cells, which may be missing: a list.
-    Cells,
-}
-
-/// The name of the first argument of a request that is not what it has to be, if there is one.
-#[tactic(auto, unfolding(crate::specs::Arguments::misread))]
-pub(crate) fn misread(kind: Kind, request: &Request) -> Option<ArgumentName>
-    ensures { result ≡ misread kind request.now }
-{
-    match object_flaw(request) {
-        Some(name) => Some(name),
-        None => first_flaw(arguments_of(kind), request),
+impl<'r> Members<'r> {
+    fn of(of: Of<'r>) -> Members<'r> {
+        Members { of, flaw: None }
     }
-}
 
-// What all of them stand in is an object.
-fn object_flaw(request: &Request) -> Option<ArgumentName>
-    ensures { result ≡ object_flaw request.now }
-{
-    if request.has_arguments() {
-        None
-    } else {
-        Some(ArgumentName::Arguments)
-    }
-}
-
-fn first_flaw(arguments: &[Argument], request: &Request) -> Option<ArgumentName>
-    ensures { result ≡ first_flaw arguments.now request.now }
-{
-    for argument in arguments {
-        match argument_flaw(*argument, request) {
-            Some(name) => return Some(name),
-            None => {}
+    fn member(self, name: &str) -> Option<&'r Value> {
+        match self.of {
+            Of::Arguments(request) => request.argument(name),
+            Of::Value(value) => member_of(value, name),
         }
     }
-    None
-}
 
-fn argument_flaw(argument: Argument, request: &Request) -> Option<ArgumentName>
-    ensures { result ≡ argument_flaw argument request.now }
-{
-    match argument {
-        Argument::One(member) => member_flaw(member, request.argument(name_of(member).text())),
-        Argument::Source => source_flaw(request.argument("source")),
-        Argument::List(name, entry) => list_flaw(name, entry, request),
-        Argument::Cells => cells_flaw(request.argument("cells")),
+    fn wrong(self, name: &'static str) -> Members<'r> {
+        Members {
+            of: self.of,
+            flaw: self.flaw.or(Some(name)),
+        }
     }
-}
 
-fn name_of(member: Member) -> ArgumentName
-    ensures { result ≡ name_of member }
-{
-    match member {
-        Member::Needs(name, _) | Member::May(name, _) => name,
+    // One that may be missing.
+    fn may(self, name: &'static str, form: Form) -> Members<'r> {
+        match self.member(name) {
+            Some(value) if !is_form(form, value) => self.wrong(name),
+            _ => self,
+        }
     }
-}
 
-fn member_flaw(member: Member, found: Option<&Value>) -> Option<ArgumentName>
-    ensures { result ≡ member_flaw member (option_map (λ v. view v.now) found.entry) }
-{
-    match found {
-        None => missing(member),
-        Some(value) => wrong(member, value),
+    fn needs(self, name: &'static str, form: Form) -> Members<'r> {
+        match self.member(name) {
+            Some(value) if is_form(form, value) => self,
+            _ => self.wrong(name),
+        }
     }
-}
 
-fn missing(member: Member) -> Option<ArgumentName>
-    ensures { result ≡ missing member }
-{
-    match member {
-        Member::Needs(name, _) => Some(name),
-        Member::May(_, _) => None,
+    // The source that a request is about, which may be missing: an object, whose path is a text.
+    fn source(self) -> Members<'r> {
+        let asked = self.may("source", Object);
+        let Some(source) = asked.member("source") else {
+            return asked;
+        };
+        match Members::of(Of::Value(source)).may("path", Text).flaw {
+            Some(name) => asked.wrong(name),
+            None => asked,
+        }
     }
-}
 
-fn wrong(member: Member, value: &Value) -> Option<ArgumentName>
-    ensures { result ≡ wrong member (view value.now) }
-{
-    match member {
-        Member::Needs(name, form) | Member::May(name, form) => {
-            if is_form(form, value) {
-                None
-            } else {
-                Some(name)
+    // A list of what breakpoints are set on.
+    fn list(self, name: &'static str, target: Target) -> Members<'r> {
+        let asked = self.needs(name, List);
+        let Some(list) = asked.member(name).and_then(Value::as_array) else {
+            return asked;
+        };
+        for entry in list {
+            match entry_flaw(name, target, entry) {
+                Some(name) => return asked.wrong(name),
+                None => {}
             }
         }
+        asked
     }
 }
 
-fn is_form(form: Form, value: &Value) -> bool
-    ensures { result ≡ is_form form (view value.now) }
-{
+fn is_form(form: Form, value: &Value) -> bool {
     match form {
-        Form::Text => value.is_string(),
-        Form::Flag => value.is_boolean(),
-        Form::Natural(most) => match natural(value) {
+        Text => value.is_string(),
+        Flag => value.is_boolean(),
+        Natural(most) => match natural(value) {
             Some(number) => number <= most,
             None => false,
         },
-        Form::Integer => integer(value).is_some(),
+        Integer => integer(value).is_some(),
+        List => value.is_array(),
+        Object => value.is_object(),
     }
 }
 
-fn source_flaw(found: Option<&Value>) -> Option<ArgumentName>
-    ensures { result ≡ source_flaw (option_map (λ v. view v.now) found.entry) }
-{
-    match found {
-        None => None,
-        Some(value) if value.is_object() => {
-            let path = Member::May(ArgumentName::Path, Form::Text);
-            member_flaw(path, member_of(value, "path"))
-        }
-        Some(_) => Some(ArgumentName::Source),
-    }
+// The flaw of an entry of a list.
+fn entry_flaw(name: &'static str, target: Target, entry: &Value) -> Option<&'static str> {
+    let asked = Members::of(Of::Value(entry));
+    let asked = match target {
+        Target::Lines => asked
+            .needs("line", ANY)
+            .may("condition", Text)
+            .may("hitCondition", Text),
+        Target::Instructions => asked
+            .needs("instructionReference", Text)
+            .may("offset", Integer)
+            .may("condition", Text)
+            .may("hitCondition", Text),
+        Target::Data => asked.needs("dataId", Text),
+        Target::Nothing => asked.needs("name", Text),
+        Target::Exceptions if entry.is_string() => asked,
+        Target::Exceptions => asked.wrong(name),
+    };
+    asked.flaw
 }
 
-fn cells_flaw(found: Option<&Value>) -> Option<ArgumentName>
-    ensures { result ≡ cells_flaw (option_map (λ v. view v.now) found.entry) }
-{
-    match found {
-        None => None,
-        Some(value) if value.is_array() => None,
-        Some(_) => Some(ArgumentName::Cells),
+/// The name of the first argument of a request that is missing or is not what it has to be, if there is one.
+#[rattlefmt::skip]
+pub(crate) fn flaw_of(kind: Kind, request: &Request) -> Option<&'static str> {
+    if !request.has_arguments() {
+        return Some("arguments");
     }
+    let asked = Members::of(Of::Arguments(request));
+    let asked = match kind {
+        Kind::Initialize => asked.may("linesStartAt1", Flag).may("columnsStartAt1", Flag).may("supportsInvalidatedEvent", Flag),
+        Kind::Launch => asked
+            .may("program", Text).may("sourceText", Text).may("devices", Text).may("devicesText", Text).may("cards", Text).may("cardsText", Text)
+            .may("typewriter", Text).may("typewriterText", Text).may("stopOnEntry", Flag).may("noDebug", Flag),
+        Kind::Given(Given::Check) => asked.needs("source", Text),
+        Kind::Given(Given::Bundle) => asked.needs("text", Text),
+        Kind::Points(Target::Lines) => asked.source().list("breakpoints", Target::Lines),
+        Kind::Points(Target::Exceptions) => asked.list("filters", Target::Exceptions),
+        Kind::Points(target) => asked.list("breakpoints", target),
+        Kind::Write => asked.needs("memoryReference", Text).may("offset", Integer).needs("data", Text),
+        Kind::Look(look) => looked_at(asked, look),
+        Kind::Act(Act::Goto) => asked.needs("targetId", ANY),
+        Kind::Act(Act::SetVariable) => asked.needs("variablesReference", ANY).needs("name", Text).needs("value", Text),
+        Kind::Act(Act::SetExpression) => asked.needs("expression", Text).needs("value", Text),
+        Kind::Act(Act::Evaluate) => asked.needs("expression", Text).may("context", Text),
+        Kind::Act(Act::Step | Act::StepBack | Act::Continue | Act::StepOut | Act::ReverseContinue | Act::Begin) => asked,
+        Kind::Pause | Kind::Terminate | Kind::Restart | Kind::Cancel | Kind::Disconnect => asked,
+    };
+    asked.flaw
 }
 
-fn list_flaw(name: ArgumentName, entry: Entry, request: &Request) -> Option<ArgumentName>
-    ensures { result ≡ list_flaw name entry request.now }
-{
-    if request.list(name.text()).is_some() {
-        entries_flaw(name, entry, entries_of(request, name.text()))
-    } else {
-        Some(name)
+// The arguments of one that only looks.
+#[rattlefmt::skip]
+fn looked_at(asked: Members<'_>, look: Look) -> Members<'_> {
+    match look {
+        Look::Frames => asked.may("startFrame", ANY),
+        Look::Variables => asked.needs("variablesReference", ANY).may("start", ANY).may("count", ANY),
+        Look::Memory => asked.needs("memoryReference", Text).may("offset", Integer).needs("count", ANY),
+        Look::Instructions => asked
+            .needs("memoryReference", Text).may("offset", Integer).may("instructionOffset", Integer).needs("instructionCount", ANY),
+        Look::Targets => asked.needs("line", ANY),
+        Look::Watch => asked.needs("name", Text).may("variablesReference", ANY),
+        Look::Locations => asked.source().needs("line", ANY).may("endLine", ANY),
+        Look::Completions => asked.needs("text", Text).needs("column", ANY),
+        Look::Counts => asked.may("conflicts", Flag),
+        Look::Path => asked.needs("columns", Natural(500)).may("from", ANY).may("until", ANY),
+        Look::State => asked.may("cells", List).may("nonzero", Flag).may("field", FIELD).may("instructions", Flag),
+        Look::Units => asked.may("unit", ANY).may("block", ANY),
+        Look::Change => asked.needs("number", ANY).may("field", FIELD).may("conflict", Flag),
+        Look::Next => asked.may("field", FIELD),
+        Look::Writes => asked.needs("part", Text).may("count", Natural(1_000)).may("until", ANY).may("total", Flag),
+        Look::Nodes | Look::Passages => asked.needs("of", Text),
+        Look::Analysis => asked.may("of", Text),
+        Look::Threads | Look::Scopes | Look::Fault | Look::Program => asked,
     }
-}
-
-fn entries_flaw(name: ArgumentName, entry: Entry, values: &[Value]) -> Option<ArgumentName>
-    ensures { result ≡ entries_flaw name entry (map view values.now) }
-{
-    for value in values {
-        match entry_flaw(name, entry, value) {
-            Some(name) => return Some(name),
-            None => {}
-        }
-    }
-    None
-}
-
-fn entry_flaw(name: ArgumentName, entry: Entry, value: &Value) -> Option<ArgumentName>
-    ensures { result ≡ entry_flaw name entry (view value.now) }
-{
-    match entry {
-        Entry::Filter if value.is_string() => None,
-        Entry::Filter => Some(name),
-        Entry::Line | Entry::Instruction | Entry::Part | Entry::Function => {
-            members_flaw(members_of(entry), value)
-        }
-    }
-}
-
-fn members_flaw(members: &[Member], value: &Value) -> Option<ArgumentName>
-    ensures { result ≡ members_flaw members.now (view value.now) }
-{
-    for member in members {
-        match member_flaw(*member, member_of(value, name_of(*member).text())) {
-            Some(name) => return Some(name),
-            None => {}
-        }
-    }
-    None
 }

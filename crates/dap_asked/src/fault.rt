@@ -3,7 +3,8 @@
 ghost use Rattle.std.specs.Prelude.{◌≡◌, None, OnOk};
 ghost use Rattle.dap_asked.specs.Fault.{Refuses, fault_number};
 
-use crate::arguments::ArgumentName;
+use crate::arguments::flaw_of;
+use crate::kind::kind_named;
 use mix_machine::DeckFault;
 use mix_refused::Memory;
 use mix_session::{AsmFault, Refusal};
@@ -34,10 +35,8 @@ pub enum Fault {
     TooLong,
     /// Q1: the adapter has no such request.
     NoSuchRequest,
-    /// Q2: an argument says nothing that can be done.
+    /// Q2: an argument is missing, is not what it has to be, or says nothing that can be done.
     BadArgument,
-    /// Q2: the argument of this name is missing, or is not what it has to be.
-    Argument(ArgumentName),
     /// Q3: no program is launched yet.
     NotLaunched,
     /// Q4: a program is launched already.
@@ -56,7 +55,7 @@ impl Fault {
             Fault::Source(fault) => 100 + u64::from(fault.kind.number()),
             Fault::Session(refusal) => 200 + u64::from(refusal.number()),
             Fault::NoSuchRequest => 301,
-            Fault::BadArgument | Fault::Argument(_) => 302,
+            Fault::BadArgument => 302,
             Fault::NotLaunched => 303,
             Fault::Launched => 304,
             Fault::NoSuchThing => 306,
@@ -84,7 +83,7 @@ impl fmt::Display for Fault {
             Fault::NotOpened => write!(f, "T4 not opened"),
             Fault::TooLong => write!(f, "T6 input too long"),
             Fault::NoSuchRequest => write!(f, "Q1 no such request"),
-            Fault::BadArgument | Fault::Argument(_) => write!(f, "Q2 bad argument"),
+            Fault::BadArgument => write!(f, "Q2 bad argument"),
             Fault::NotLaunched => write!(f, "Q3 not launched"),
             Fault::Launched => write!(f, "Q4 launched already"),
             Fault::NoSuchThing => write!(f, "Q6 no such thing"),
@@ -103,13 +102,13 @@ pub fn refuse(
     ensures { OnOk result (Refuses request.now fault out.old out.new) }
 {
     let text = format!(in alloc; "{fault}")?;
-    let variables = fault_place(alloc, fault)?;
+    let variables = fault_place(alloc, request, fault)?;
     out.refuse(request, fault.number(), text.as_str(), variables)?;
     Ok(())
 }
 
 // Where a fault stands: in a line of a text, or in an argument; nothing for another one.
-fn fault_place(alloc: Global, fault: Fault) -> Result<Value, Memory> {
+fn fault_place(alloc: Global, request: &Request, fault: Fault) -> Result<Value, Memory> {
     match fault {
         Fault::Source(AsmFault { line, kind, .. }) => {
             let reason = format!(in alloc; "{kind}")?;
@@ -118,10 +117,14 @@ fn fault_place(alloc: Global, fault: Fault) -> Result<Value, Memory> {
         Fault::Deck(at) => deck_place(alloc, "devices", at),
         Fault::Cards(at) => deck_place(alloc, "cards", at),
         Fault::Typed(at) => deck_place(alloc, "typewriter", at),
-        Fault::Argument(name) => Ok(json!(in alloc; {"argument": name.text()})?),
+        Fault::BadArgument => match kind_named(request.name()).and_then(|kind| flaw_of(
+            kind, request,
+        )) {
+            Some(name) => Ok(json!(in alloc; {"argument": name})?),
+            None => Ok(Value::Null),
+        },
         Fault::Session(_)
         | Fault::NoSuchRequest
-        | Fault::BadArgument
         | Fault::NotLaunched
         | Fault::Launched
         | Fault::NoSuchThing

@@ -1,12 +1,11 @@
 //! What a request is about, by its name.
 
 ghost use Rattle.std.specs.Prelude.{◌≡◌, map};
-ghost use Rattle.dap_asked.specs.Arguments.{misread};
-ghost use Rattle.dap_asked.specs.Kind.{kind_among, kind_asked, kind_before, kind_named, needs_program, requests, unless_misread};
+ghost use Rattle.dap_asked.specs.Kind.{IsAsked, kind_among, kind_named};
 
 mod given;
 
-use crate::arguments::misread;
+use crate::arguments::flaw_of;
 use crate::fault::Fault;
 pub use given::Given;
 use rpc_message::Request;
@@ -131,67 +130,63 @@ pub enum Act {
 
 /// The requests that there are, by their names in the protocol, and views of a machine of MIX beside it.
 #[rattlefmt::skip]
-fn requests() -> &'static [(&'static str, Kind)]
-    ensures { map (λ row. (row.0.now, row.1)) result.now ≡ requests }
-{
-    &[
-        ("initialize", Kind::Initialize),
-        ("launch", Kind::Launch),
-        ("configurationDone", Kind::Act(Act::Begin)),
-        ("setBreakpoints", Kind::Points(Target::Lines)),
-        ("setFunctionBreakpoints", Kind::Points(Target::Nothing)),
-        ("setInstructionBreakpoints", Kind::Points(Target::Instructions)),
-        ("setDataBreakpoints", Kind::Points(Target::Data)),
-        ("setExceptionBreakpoints", Kind::Points(Target::Exceptions)),
-        ("dataBreakpointInfo", Kind::Look(Look::Watch)),
-        ("breakpointLocations", Kind::Look(Look::Locations)),
-        ("threads", Kind::Look(Look::Threads)),
-        ("stackTrace", Kind::Look(Look::Frames)),
-        ("scopes", Kind::Look(Look::Scopes)),
-        ("variables", Kind::Look(Look::Variables)),
-        ("setVariable", Kind::Act(Act::SetVariable)),
-        ("setExpression", Kind::Act(Act::SetExpression)),
-        ("evaluate", Kind::Act(Act::Evaluate)),
-        ("completions", Kind::Look(Look::Completions)),
-        ("exceptionInfo", Kind::Look(Look::Fault)),
-        ("continue", Kind::Act(Act::Continue)),
-        ("next", Kind::Act(Act::Step)),
-        ("stepIn", Kind::Act(Act::Step)),
-        ("stepOut", Kind::Act(Act::StepOut)),
-        ("stepBack", Kind::Act(Act::StepBack)),
-        ("reverseContinue", Kind::Act(Act::ReverseContinue)),
-        ("pause", Kind::Pause),
-        ("goto", Kind::Act(Act::Goto)),
-        ("gotoTargets", Kind::Look(Look::Targets)),
-        ("readMemory", Kind::Look(Look::Memory)),
-        ("writeMemory", Kind::Write),
-        ("disassemble", Kind::Look(Look::Instructions)),
-        ("restart", Kind::Restart),
-        ("disconnect", Kind::Disconnect),
-        ("terminate", Kind::Terminate),
-        ("cancel", Kind::Cancel),
-        ("mix/program", Kind::Look(Look::Program)),
-        ("mix/counts", Kind::Look(Look::Counts)),
-        ("mix/path", Kind::Look(Look::Path)),
-        ("mix/state", Kind::Look(Look::State)),
-        ("mix/units", Kind::Look(Look::Units)),
-        ("mix/change", Kind::Look(Look::Change)),
-        ("mix/next", Kind::Look(Look::Next)),
-        ("mix/writes", Kind::Look(Look::Writes)),
-        ("mix/nodes", Kind::Look(Look::Nodes)),
-        ("mix/passages", Kind::Look(Look::Passages)),
-        ("mix/analysis", Kind::Look(Look::Analysis)),
-        ("mix/check", Kind::Given(Given::Check)),
-        ("mix/bundle", Kind::Given(Given::Bundle)),
-    ]
-}
+pub const REQUESTS: [(&str, Kind); 48] = [
+    ("initialize", Kind::Initialize),
+    ("launch", Kind::Launch),
+    ("configurationDone", Kind::Act(Act::Begin)),
+    ("setBreakpoints", Kind::Points(Target::Lines)),
+    ("setFunctionBreakpoints", Kind::Points(Target::Nothing)),
+    ("setInstructionBreakpoints", Kind::Points(Target::Instructions)),
+    ("setDataBreakpoints", Kind::Points(Target::Data)),
+    ("setExceptionBreakpoints", Kind::Points(Target::Exceptions)),
+    ("dataBreakpointInfo", Kind::Look(Look::Watch)),
+    ("breakpointLocations", Kind::Look(Look::Locations)),
+    ("threads", Kind::Look(Look::Threads)),
+    ("stackTrace", Kind::Look(Look::Frames)),
+    ("scopes", Kind::Look(Look::Scopes)),
+    ("variables", Kind::Look(Look::Variables)),
+    ("setVariable", Kind::Act(Act::SetVariable)),
+    ("setExpression", Kind::Act(Act::SetExpression)),
+    ("evaluate", Kind::Act(Act::Evaluate)),
+    ("completions", Kind::Look(Look::Completions)),
+    ("exceptionInfo", Kind::Look(Look::Fault)),
+    ("continue", Kind::Act(Act::Continue)),
+    ("next", Kind::Act(Act::Step)),
+    ("stepIn", Kind::Act(Act::Step)),
+    ("stepOut", Kind::Act(Act::StepOut)),
+    ("stepBack", Kind::Act(Act::StepBack)),
+    ("reverseContinue", Kind::Act(Act::ReverseContinue)),
+    ("pause", Kind::Pause),
+    ("goto", Kind::Act(Act::Goto)),
+    ("gotoTargets", Kind::Look(Look::Targets)),
+    ("readMemory", Kind::Look(Look::Memory)),
+    ("writeMemory", Kind::Write),
+    ("disassemble", Kind::Look(Look::Instructions)),
+    ("restart", Kind::Restart),
+    ("disconnect", Kind::Disconnect),
+    ("terminate", Kind::Terminate),
+    ("cancel", Kind::Cancel),
+    ("mix/program", Kind::Look(Look::Program)),
+    ("mix/counts", Kind::Look(Look::Counts)),
+    ("mix/path", Kind::Look(Look::Path)),
+    ("mix/state", Kind::Look(Look::State)),
+    ("mix/units", Kind::Look(Look::Units)),
+    ("mix/change", Kind::Look(Look::Change)),
+    ("mix/next", Kind::Look(Look::Next)),
+    ("mix/writes", Kind::Look(Look::Writes)),
+    ("mix/nodes", Kind::Look(Look::Nodes)),
+    ("mix/passages", Kind::Look(Look::Passages)),
+    ("mix/analysis", Kind::Look(Look::Analysis)),
+    ("mix/check", Kind::Given(Given::Check)),
+    ("mix/bundle", Kind::Given(Given::Bundle)),
+];
 
-/// What a request of this name is about, if there is one: letter for letter.
+// What a request of this name is about, if there is one: letter for letter.
 #[tactic(auto, unfolding(crate::specs::Kind::kind_named))]
-fn kind_named(name: &str) -> Option<Kind>
+pub(crate) fn kind_named(name: &str) -> Option<Kind>
     ensures { result ≡ kind_named name.now }
 {
-    kind_among(requests(), name)
+    kind_among(&REQUESTS, name)
 }
 
 fn kind_among(rows: &[(&str, Kind)], name: &str) -> Option<Kind>
@@ -206,49 +201,26 @@ fn kind_among(rows: &[(&str, Kind)], name: &str) -> Option<Kind>
 }
 
 /// What a request is about; it is refused whatever the machine is like, if there is none of its name, or an argument is not what it has to be.
-#[tactic(auto, unfolding(crate::specs::Kind::kind_asked))]
 pub fn kind_asked(request: &Request) -> Result<Kind, Fault>
-    ensures { result ≡ kind_asked request.now }
+    ensures { IsAsked result request.now }
 {
     match kind_named(request.name()) {
-        Some(kind) => unless_misread(kind, request),
         None => Err(Fault::NoSuchRequest),
+        Some(kind) => match flaw_of(kind, request) {
+            None => Ok(kind),
+            Some(_) => Err(Fault::BadArgument),
+        },
     }
 }
 
 /// The same before a program is launched, of which a request that needs one has its arguments not looked at.
-#[tactic(auto, unfolding(crate::specs::Kind::kind_before))]
 pub fn kind_before(request: &Request) -> Result<Kind, Fault>
-    ensures { result ≡ kind_before request.now }
+    ensures { IsAsked result request.now }
 {
     match kind_named(request.name()) {
-        Some(kind) if needs_program(kind) => Ok(kind),
-        Some(kind) => unless_misread(kind, request),
-        None => Err(Fault::NoSuchRequest),
-    }
-}
-
-fn unless_misread(kind: Kind, request: &Request) -> Result<Kind, Fault>
-    ensures { result ≡ unless_misread (misread kind request.now) kind }
-{
-    match misread(kind, request) {
-        Some(name) => Err(Fault::Argument(name)),
-        None => Ok(kind),
-    }
-}
-
-fn needs_program(kind: Kind) -> bool
-    ensures { result ≡ needs_program kind }
-{
-    match kind {
-        Kind::Initialize | Kind::Given(_) | Kind::Launch | Kind::Terminate | Kind::Disconnect =>
-            false,
-        Kind::Look(_)
-        | Kind::Points(_)
-        | Kind::Pause
-        | Kind::Restart
-        | Kind::Cancel
-        | Kind::Write
-        | Kind::Act(_) => true,
+        None
+        | Some(Kind::Initialize | Kind::Given(_) | Kind::Launch)
+        | Some(Kind::Terminate | Kind::Disconnect) => kind_asked(request),
+        Some(kind) => Ok(kind),
     }
 }

@@ -14,7 +14,6 @@ mod scope;
 mod value;
 mod watch;
 
-pub use arguments::ArgumentName;
 pub use deed::{Deed, Worth, deed_of, line_deed, worth_of};
 pub use entry::{entries_of, integer_in, number_in, text_in};
 pub use fault::{Fault, refuse};

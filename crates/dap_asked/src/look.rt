@@ -74,17 +74,25 @@ fn frame(
     alloc: Global,
     program: &Program,
     world: &World,
-    name: Name<'_>,
+    source_name: Name<'_>,
     first: u64,
 ) -> Result<Value, Memory> {
     let mut frame = Fields::new(alloc);
     frame.number("id", 1)?;
-    frame.text("name", frame_name(alloc, world)?.as_str())?;
+    let cell = cell_name(alloc, world.loc())?;
+    let name = match cell_at(world) {
+        Some(place) => {
+            let instruction = Instruction(world.cell(place));
+            format!(in alloc; "{cell} {instruction}")?
+        }
+        None => cell,
+    };
+    frame.text("name", name.as_str())?;
     let reference = reference_of(alloc, world.loc())?;
     frame.text("instructionPointerReference", reference.as_str())?;
-    match line_at(program, world) {
+    match cell_at(world).and_then(|cell| line_of_cell(program, cell)) {
         Some(line) => {
-            frame.put("source", source(alloc, name)?)?;
+            frame.put("source", source(alloc, source_name)?)?;
             frame.number("line", line_for(first, line))?;
         }
         None => frame.number("line", 0)?,
@@ -105,11 +113,6 @@ pub fn source_line(first: u64, line: u64) -> u64
     line.saturating_add(1u64.saturating_sub(first))
 }
 
-// The line of the source that put the word at the location there.
-fn line_at(program: &Program, world: &World) -> Option<u64> {
-    line_of_cell(program, cell_at(world)?)
-}
-
 /// The line of the source that put the word of a cell there.
 pub fn line_of_cell(program: &Program, cell: Place) -> Option<u64>
     ensures { result ≡ line_of_cell program.now cell }
@@ -124,18 +127,6 @@ pub fn line_of(source: &Source) -> Option<u64>
     match source {
         Source::Line(line, _) => Some(u64::from(*line)),
         Source::Literal(_) | Source::Name(_) => None,
-    }
-}
-
-fn frame_name(alloc: Global, world: &World) -> Result<String, Memory> {
-    let cell = cell_name(alloc, world.loc())?;
-    match cell_at(world) {
-        Some(place) => {
-            let instruction = Instruction(world.cell(place));
-            let text = format!(in alloc; "{cell} {instruction}")?;
-            Ok(text)
-        }
-        None => Ok(cell),
     }
 }
 

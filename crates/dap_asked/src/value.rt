@@ -65,16 +65,12 @@ pub fn place_at(number: u16) -> Place
 
 /// The value of the variable that a request names, or nothing if there is none.
 pub fn value_asked(alloc: Global, world: &World, request: &Request) -> Result<String, Memory> {
-    match variable_asked(request) {
+    let name = request.text("name").unwrap_or("");
+    let scope = request.number("variablesReference").and_then(scope_of);
+    match scope.and_then(|scope| part_of(scope, name)) {
         Some(part) => part_value(alloc, world, part),
         None => Ok(String::new(alloc)),
     }
-}
-
-// The variable that a request names: its scope by a reference, and its name.
-fn variable_asked(request: &Request) -> Option<Part> {
-    let scope = request.number("variablesReference").and_then(scope_of)?;
-    part_of(scope, request.text("name").unwrap_or(""))
 }
 
 // What a part of the machine holds, as its variable shows it.

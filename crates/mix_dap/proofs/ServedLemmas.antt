@@ -3,7 +3,6 @@ use Rattle.std.proofs.Common.{◌≡◌, ℕ, List, [], refl, ap, ◌∙◌, Res
 use Rattle.rpc_message.specs.declared.outbox.Outbox.{Outbox}
 use Rattle.rpc_message.specs.declared.request.Request.{Request}
 use Rattle.rpc_message.specs.Message.{waits}
-use Rattle.dap_asked.specs.Kind.{kind_before}
 use Rattle.mix_dap.specs.Prelude.{LaunchTells, AskedShows, Known, Texts}
 use Rattle.mix_dap.specs.Dialogue.{Opens}
 use Rattle.mix_dap.specs.declared.waiting.Asked.TheVariants as asked
@@ -38,9 +37,9 @@ launch-waits (Err why) knows texts r a b is = absurd (let e = is.0 in cc)
 launch-waits (Ok k) knows texts r a b is = kind-launch k knows texts r a b is
 
 -- nothing waits before it, nor while its texts are read
-pub opens-as : (knows : List ℕ → Known) (request : Request) (texts : Texts) (a b c : Outbox) → waits a ≡ []
-    → AskedShows knows (kind_before request) (asked.Launch texts) request a b
-    → LaunchTells request texts b c → Opens request texts (waits c) a.seq c.seq
-opens-as knows request texts a b c none shows prints =
-    let launch = launch-waits (kind_before request) knows texts request a b shows in
+pub opens-as : (kind : Result Kind Fault) (knows : List ℕ → Known) (request : Request) (texts : Texts) (a b c : Outbox) → waits a ≡ []
+    → AskedShows knows kind (asked.Launch texts) request a b
+    → LaunchTells request texts b c → Opens kind request texts (waits c) a.seq c.seq
+opens-as kind knows request texts a b c none shows prints =
+    let launch = launch-waits kind knows texts request a b shows in
     ((launch.0, knows, launch.1), record { old = b; new = c; none = ap waits launch.2 ∙ none; all = refl; follow = ap (λ (o : Outbox). o.seq) launch.2; lead = refl; added = prints })

@@ -2,7 +2,9 @@
 use Rattle.std.specs.Prelude.{◌≡◌, ◌⊎◌, ◌≤◌, ◌-◌, ◌^◌, ◌++◌, ℕ, List, [], ◌∷◌, codes, Option, Result, Ok, Err, IsErr}
 use Rattle.std.specs.Io.KnownBytes.{Appends, prepend_known}
 use Rattle.serde_json.specs.Data.{Data}
-use Rattle.dap_asked.specs.Kind.{kind_before}
+use Rattle.dap_asked.specs.Kind.{IsAsked}
+use Rattle.dap_asked.specs.declared.fault.Fault.{Fault}
+use Rattle.dap_asked.specs.declared.kind.Kind.{Kind}
 use Rattle.rpc_message.specs.declared.request.Request.{Request}
 use Rattle.rpc_message.specs.Message.{next_seq}
 use Rattle.rpc_stream.specs.Asked.{Frame, IsRequest}
@@ -39,12 +41,14 @@ turn_of flow.Over = turn.Over
 
 -- a request of a launched program; the last messages before it and for it have these numbers
 pub record AdapterServes (a : Adapter × ℕ) (request : Request) (told : List Data) (next : Turn) (b : Adapter × ℕ) : Type 0 where
+  pub asked : Result Kind Fault
+  pub is_asked : IsAsked asked request
   pub flow : Flow
   pub next_is : next ≡ turn_of flow
   pub program : b.0.session.program ≡ a.0.session.program
   pub first : b.0.session.timeline.first ≡ a.0.session.timeline.first
   pub keeps : KeepsSaid a.0 b.0
-  pub reacts : Sends told a.1 b.1 (λ old new. Reacts request a.0 flow b.0 old new)
+  pub reacts : Sends told a.1 b.1 (λ old new. Reacts asked request a.0 flow b.0 old new)
 
 -- the line that tells what ended a dialogue, or that memory was refused for it
 abbrev pub line_of : List ℕ → List ℕ
@@ -60,8 +64,8 @@ pub data Stage : Type 0 where
   done : Stage
 
 -- a launch that was asked for, with these texts: those that it gives, and of files what was known of them
-abbrev pub Launches : Request → Texts → Type 0
-Launches request texts = IsLaunch (kind_before request) × (knows : List ℕ → Known) × AreTexts knows request texts
+abbrev pub Launches : Result Kind Fault → Request → Texts → Type 0
+Launches kind request texts = IsLaunch kind × (knows : List ℕ → Known) × AreTexts knows request texts
 
 -- where a dialogue is, and the number of the last message
 abbrev pub Reached : Type 0
@@ -72,14 +76,14 @@ abbrev pub at_first : Reached
 at_first = (waiting unknown_client, 0)
 
 -- it is answered, and what belongs to its answer is told
-abbrev pub Opens : Request → Texts → List Data → ℕ → ℕ → Type 0
-Opens request texts told before last = Launches request texts
+abbrev pub Opens : Result Kind Fault → Request → Texts → List Data → ℕ → ℕ → Type 0
+Opens kind request texts told before last = Launches kind request texts
     × Sends told before last (λ old new. LaunchTells request texts old new)
 
 -- another request is answered
-abbrev pub Replied : Asked → Request → List Data → ℕ → ℕ → Type 0
-Replied asked request told before last =
-    (knows : List ℕ → Known) × Sends told before last (λ old new. AskedShows knows (kind_before request) asked request old new)
+abbrev pub Replied : Asked → Result Kind Fault → Request → List Data → ℕ → ℕ → Type 0
+Replied asked kind request told before last =
+    (knows : List ℕ → Known) × Sends told before last (λ old new. AskedShows knows kind asked request old new)
 
 -- an adapter is as it begins, for these texts and this client: nothing is told of its rows
 abbrev pub BeginsAs : Adapter → Texts → Client → Type 0
@@ -87,12 +91,17 @@ BeginsAs a texts client =
     (launched_of texts ≡ Ok a.session) × HasTexts a texts × (a.client ≡ client) × (a.printed ≡ none_told)
 
 -- a request of a client before a program is launched, and what is waited for after it
+abbrev pub BeforeStepsAs : Result Kind Fault → Client → ℕ → Request → List Data → Stage → ℕ → Type 0
+BeforeStepsAs kind client before request told (waiting next) last = (next ≡ client_after kind request client)
+    × (Replied asked.Answered kind request told before last ⊎ ((texts : Texts) × IsErr (launched_of texts) × Opens kind request texts told before last))
+BeforeStepsAs kind client before request told (debugs a) last =
+    (texts : Texts) × BeginsAs a texts (client_after kind request client) × Opens kind request texts told before last
+BeforeStepsAs kind client before request told done last = Replied asked.Over kind request told before last
+
+-- by what it is about
 abbrev pub BeforeSteps : Client → ℕ → Request → List Data → Stage → ℕ → Type 0
-BeforeSteps client before request told (waiting next) last = (next ≡ client_after (kind_before request) request client)
-    × (Replied asked.Answered request told before last ⊎ ((texts : Texts) × IsErr (launched_of texts) × Opens request texts told before last))
-BeforeSteps client before request told (debugs a) last =
-    (texts : Texts) × BeginsAs a texts (client_after (kind_before request) request client) × Opens request texts told before last
-BeforeSteps client before request told done last = Replied asked.Over request told before last
+BeforeSteps client before request told next last =
+    (kind : Result Kind Fault) × IsAsked kind request × BeforeStepsAs kind client before request told next last
 
 -- one exchange of a dialogue that is at such a stage
 abbrev pub StageSteps : Stage → ℕ → Frame → List Data → Stage → ℕ → Type 0

@@ -12,7 +12,6 @@ use Rattle.mix_dap.specs.Console.{deed_asked}
 use Rattle.mix_dap.specs.Events.{AddsAnswer, AddsEvents}
 use Rattle.dap_asked.specs.declared.fault.Fault.{Fault}
 use Rattle.dap_asked.specs.declared.kind.Kind.{Kind}
-use Rattle.dap_asked.specs.Kind.{kind_asked}
 use Rattle.mix_dap.specs.Leaves.{Leaves}
 use Rattle.mix_dap.specs.Ended.{end_told}
 use Rattle.mix_dap.specs.Output.{all_told, outputs}
@@ -82,8 +81,8 @@ pub record ReactsAs (x : Reaction) (r : Request) (how : Flow) (b : Adapter) (old
   pub told : AddsAnswer (answer_message r body) x.events old between
   pub goes : GoesOn x.later mid b between new
 
-abbrev pub Reacts : Request → Adapter → Flow → Adapter → Outbox → Outbox → Type 0
-Reacts r a how b old new = ReactsAs (reaction_to (kind_asked r) r a) r how b old new
+abbrev pub Reacts : Result Kind Fault → Request → Adapter → Flow → Adapter → Outbox → Outbox → Type 0
+Reacts asked r a how b old new = ReactsAs (reaction_to asked r a) r how b old new
 
 -- ---- for want of memory
 

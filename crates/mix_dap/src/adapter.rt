@@ -1,7 +1,6 @@
 //! The adapter of a program that was launched.
 
 ghost use Rattle.std.specs.Prelude.{◌≡◌, IfOk, IfNone, IfSome, IsErr, OnErr, OnOk, Ok};
-ghost use Rattle.dap_asked.specs.Kind.{kind_asked};
 ghost use Rattle.dap_asked.specs.Fault.{Refuses};
 ghost use Rattle.mix_dap.specs.Answer.{HasTexts, LaunchTells};
 ghost use Rattle.mix_dap.specs.Prelude.{launched_of, reaction};
@@ -26,7 +25,7 @@ use crate::loaded::session_of;
 use crate::printed::Printed;
 use crate::report::tell_report;
 use crate::waiting::Waiting;
-use dap_asked::{Fault, Kind, kind_asked, nothing, refuse};
+use dap_asked::{Fault, Kind, nothing, refuse};
 use dap_points::Points;
 use mix_machine::MixFault;
 use mix_refused::{Memory, Refused};
@@ -141,17 +140,22 @@ impl Adapter {
         &self.session
     }
 
-    /// Answers a request: what is done to the session, to the breakpoints and to what is told is what one row of a table says of the request, and then the
+    /// Answers a request, of which `kind_asked` says what it is about: what is done to the session, to the breakpoints and to what is told is what one row of a table says of the request, and then the
     /// program runs, if it is to, up to a stop or after 1,000,000 changes. A request that is refused changes nothing, nor does one that only looks. Out of
     /// memory, nothing is done, or a stage stands of what it asks of the session, or a part of the run.
-    pub fn receive(&mut self, request: &Request, out: &mut Outbox) -> Result<Flow, Memory>
+    pub fn receive(
+        &mut self,
+        asked: Result<Kind, Fault>,
+        request: &Request,
+        out: &mut Outbox,
+    ) -> Result<Flow, Memory>
         ensures program { self.new.session.program ≡ self.old.session.program }
         ensures first { self.new.session.timeline.first ≡ self.old.session.timeline.first }
         ensures keeps { KeepsSaid self.old self.new }
-        ensures reacts { IfOk result (λ flow. Reacts request.now self.old flow self.new out.old out.new) }
-        ensures begun { OnErr result (ReactsPartly (kind_asked request.now) request.now self.old self.new.session.timeline) }
+        ensures reacts { IfOk result (λ flow. Reacts asked request.now self.old flow self.new out.old out.new) }
+        ensures begun { OnErr result (ReactsPartly asked request.now self.old self.new.session.timeline) }
     {
-        match kind_asked(request) {
+        match asked {
             Err(fault) => self.refuse(request, fault, out),
             Ok(kind) => self.react(kind, request, out),
         }

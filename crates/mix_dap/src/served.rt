@@ -10,6 +10,7 @@ ghost use Rattle.mix_dap.specs.Stage.{StageServes, stage_of};
 use crate::adapter::{Adapter, Flow};
 use crate::launch::{Library, Texts};
 use crate::waiting::{Asked, Waiting};
+use dap_asked::{kind_asked, kind_before};
 use mix_refused::Memory;
 use rpc_message::{Outbox, Request};
 use rpc_stream::{Serves, Turn};
@@ -99,7 +100,8 @@ fn ask_before<L: Library>(
     ensures { IfOk result (λ r. StageServes (waiting before.client, outbox.old.seq) request.now (waits outbox.new) r.0 (stage_of r.1, outbox.new.seq)) }
 {
     let mut before = before;
-    match before.receive(library, request, outbox)? {
+    let kind = kind_before(request);
+    match before.receive(library, kind, request, outbox)? {
         Asked::Answered => Ok((Turn::On, Holds::Waiting(before))),
         Asked::Over => Ok((Turn::Over, Holds::Nothing)),
         Asked::Launch(texts) => match opened(alloc, &before, texts, request, outbox)? {
@@ -134,7 +136,7 @@ fn ask_program(
     ensures { IfOk result (λ r. StageServes (debugs adapter, outbox.old.seq) request.now (waits outbox.new) r.0 (stage_of r.1, outbox.new.seq)) }
 {
     let mut adapter = adapter;
-    match adapter.receive(request, outbox)? {
+    match adapter.receive(kind_asked(request), request, outbox)? {
         Flow::On | Flow::Refused(_) => Ok((Turn::On, Holds::Program(adapter))),
         Flow::Over => Ok((Turn::Over, Holds::Nothing)),
     }

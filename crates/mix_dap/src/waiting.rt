@@ -1,7 +1,6 @@
 //! Before a program is launched.
 
 ghost use Rattle.std.specs.Prelude.{◌≡◌, [], IfOk, OnOk};
-ghost use Rattle.dap_asked.specs.Kind.{kind_before};
 ghost use Rattle.mix_dap.specs.Before.{LaunchShows, AskedShows, client_after};
 ghost use Rattle.mix_dap.specs.Capabilities.{unknown_client};
 ghost use Rattle.mix_dap.specs.Replies.{AddsEither};
@@ -9,7 +8,7 @@ ghost use Rattle.mix_dap.specs.Replies.{AddsEither};
 use crate::capabilities::{Client, capabilities};
 use crate::event::tell_event;
 use crate::launch::{Library, Texts, texts_of};
-use dap_asked::{Fault, Given, Kind, kind_before, nothing, refuse};
+use dap_asked::{Fault, Given, Kind, nothing, refuse};
 use dap_views::given_view;
 use mix_refused::{Memory, Refused};
 use rpc_message::{Outbox, Request};
@@ -44,18 +43,19 @@ impl Waiting {
         }
     }
 
-    /// Answers a request, but for one to launch a program, whose texts are read.
+    /// Answers a request, of which `kind_before` says what it is about, but for one to launch a program, whose texts are read.
     #[tactic(auto, using(crate::proofs::EventLemmas::answering))]
     pub fn receive<L: Library>(
         &mut self,
         library: &L,
+        kind: Result<Kind, Fault>,
         request: &Request,
         out: &mut Outbox,
     ) -> Result<Asked, Memory>
-        ensures client { OnOk result (self.new.client ≡ client_after (kind_before request.now) request.now self.old.client) }
-        ensures shows { IfOk result (λ asked. AskedShows (L.knows library.now) (kind_before request.now) asked request.now out.old out.new) }
+        ensures client { OnOk result (self.new.client ≡ client_after kind request.now self.old.client) }
+        ensures shows { IfOk result (λ asked. AskedShows (L.knows library.now) kind asked request.now out.old out.new) }
     {
-        let kind = match kind_before(request) {
+        let kind = match kind {
             Ok(kind) => kind,
             Err(fault) => {
                 refuse(self.alloc, request, fault, out)?;

@@ -18,9 +18,7 @@ pub fn nodes_view(
     session: &Session,
     request: &Request,
 ) -> Result<Value, Refused<Fault>> {
-    let Some(of) = request.text("of") else {
-        return Err(Refused::Fault(Fault::BadArgument));
-    };
+    let of = request.text("of").unwrap_or("");
     match nodes_asked(alloc, session, &mut Words::of(of.as_bytes()))? {
         Some(graph) => Ok(graph_shown(alloc, &graph)?),
         None => Err(Refused::Fault(Fault::Session(Refusal::BadArgument))),

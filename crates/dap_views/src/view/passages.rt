@@ -15,9 +15,7 @@ pub fn passages_view(
     session: &Session,
     request: &Request,
 ) -> Result<Value, Refused<Fault>> {
-    let Some(of) = request.text("of") else {
-        return Err(Refused::Fault(Fault::BadArgument));
-    };
+    let of = request.text("of").unwrap_or("");
     match read_passages(alloc, session, of.as_bytes())? {
         Some(passages) => Ok(passages_shown(alloc, session, &passages)?),
         None => Err(Refused::Fault(Fault::Session(Refusal::BadArgument))),

@@ -8,12 +8,14 @@ pub returns-in-On : goal.returns-in-On
 returns-in-On c = (
   refl,
   record {
+    asked = c.kind_asked.result;
+    is_asked = c.kind_asked.ensures;
     flow = c.in_ok-receive.field-0;
     next_is = search rules;
     program = c.in_ok-receive.ensures.program;
     first = c.in_ok-receive.ensures.first;
     keeps = c.in_ok-receive.ensures.keeps;
-    reacts = sends-all (λ old new. Reacts c.args.request.now c.args.adapter c.in_ok-receive.field-0 c.receive.new.self old new) c.args.outbox.now c.receive.new.out
+    reacts = sends-all (λ old new. Reacts c.kind_asked.result c.args.request.now c.args.adapter c.in_ok-receive.field-0 c.receive.new.self old new) c.args.outbox.now c.receive.new.out
         c.requires c.in_ok-receive.ensures.reacts;
   },
 )
@@ -24,12 +26,14 @@ returns-in-Over c = (
   (
     c.receive.new.self,
     record {
+      asked = c.kind_asked.result;
+      is_asked = c.kind_asked.ensures;
       flow = c.in_ok-receive.field-0;
       next_is = search rules;
       program = c.in_ok-receive.ensures.program;
       first = c.in_ok-receive.ensures.first;
       keeps = c.in_ok-receive.ensures.keeps;
-      reacts = sends-all (λ old new. Reacts c.args.request.now c.args.adapter c.in_ok-receive.field-0 c.receive.new.self old new) c.args.outbox.now c.receive.new.out
+      reacts = sends-all (λ old new. Reacts c.kind_asked.result c.args.request.now c.args.adapter c.in_ok-receive.field-0 c.receive.new.self old new) c.args.outbox.now c.receive.new.out
           c.requires c.in_ok-receive.ensures.reacts;
     },
   ),
