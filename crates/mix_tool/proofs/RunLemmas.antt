@@ -1,5 +1,5 @@
 -- A run of a plan is that of its program with the units of its texts.
-use Rattle.std.proofs.Common.{◌≡◌, ◌∙◌, ℕ, Bool, List, [], ◌∷◌, ◌++◌, Option, None, Some, Result, Ok, Err, IfErr, IfOk, ap, arith, inl, inr, refl, subst, sym, take}
+use Rattle.std.proofs.Common.{◌≡◌, ◌∙◌, ℕ, Bool, List, [], ◌∷◌, ◌++◌, Option, Some, Result, Ok, Err, IfErr, IfOk, ap, arith, inl, inr, refl, subst, sym, take}
 use Rattle.std.proofs.KnownBytes.{Appends-nil, Keeps-refl}
 use Rattle.std.specs.Prelude.{option_map, string_bytes}
 use Rattle.mix_files.specs.Bundle.{parts_of}
@@ -12,7 +12,6 @@ use Rattle.mix_run.specs.Prelude.{DrawnRun, IsMemoryOrRead, Saved, named, noted,
 use Rattle.mix_run.specs.declared.fault.ToolFault.{ToolFault}
 use Rattle.mix_run.specs.declared.print.PrintAnswer.TheVariants.{Refused}
 use Rattle.mix_run.specs.declared.print.Printed.{Printed}
-use Rattle.mix_run.specs.declared.print.options.PrintOptions.{PrintOptions}
 use Rattle.mix_run.specs.PrintOutput.{Leaves, PrintOutcome, kept_of, outcome_of_run}
 use Rattle.mix_run.specs.declared.fault.ToolFault.TheVariants as faults
 use Rattle.mix_run.specs.law.SameDeck.{kept-of_run}

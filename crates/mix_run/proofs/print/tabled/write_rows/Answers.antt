@@ -1,6 +1,8 @@
 -- One step more.
-use Rattle.std.proofs.Common.{◌≡◌, ◌+◌, ◌-◌, ◌∙◌, ◌++◌, [], suc, refl, arith}
+use Rattle.std.proofs.Common.{◌≡◌, ◌-◌, ◌∙◌, ◌++◌, [], suc, refl, arith}
 use Rattle.std.proofs.lemmas.Result.{err_from_is_err_and}
+use Rattle.mix_run.specs.Prelude.{steps_of}
+use Rattle.mix_run.specs.StepTable.{unwatched}
 use Rattle.mix_run.proofs.TabledLemmas.{rests-ended, rests-first, rests-none, rests-on}
 use Rattle.mix_run.proofs.Written.{Appends-nothing, Appends-then, AppendsFront-all}
 use Rattle.mix_run.proofs.WritesLemmas.{writes-failed}
@@ -33,7 +35,7 @@ loop-left-preserved g c =
     record {
       written = (so_far.0 ++ c.deref.result.now, Appends-then _ _ _ _ _ so_far.1 c.in_ok-write_all.ensures.written);
       failed = c.in_ok-write_all.ensures.failed.1 (λ e. cc) ∙ c.loop-left.invariant.failed;
-      rests = rests-on c.args.options left (left - 1) _ _ _ more (rw c.in-None.is at c.in_ok-end.ensures) c.loop-left.invariant.rests;
+      rests = rests-on c.args.options left (left - 1) _ _ (steps_of (unwatched c.args.options) c.args.world.now) more (rw c.in-None.is at c.in_ok-end.ensures) c.loop-left.invariant.rests;
     }
 
 pub returns-in-Some : goal.returns-in-Some
@@ -43,7 +45,7 @@ returns-in-Some g c =
     let so_far = c.loop-left.invariant.written in (
       so_far.0 ++ c.deref.result.now,
       (
-        rests-ended c.args.options left (left - 1) _ _ _ _ more (rw c.in-Some.is at c.in_ok-end.ensures) c.loop-left.invariant.rests,
+        rests-ended c.args.options left (left - 1) _ _ _ (steps_of (unwatched c.args.options) c.args.world.now) more (rw c.in-Some.is at c.in_ok-end.ensures) c.loop-left.invariant.rests,
         Appends-then _ _ _ _ _ so_far.1 c.in_ok-write_all.ensures.written,
         c.in_ok-write_all.ensures.failed.1 (λ e. cc) ∙ c.loop-left.invariant.failed,
       ),
@@ -54,7 +56,7 @@ returns g c =
     let so_far = c.loop-left.invariant.written in (
       so_far.0,
       (
-        rests-none c.args.options c.loop-left.left c.loop-left.world _ c.loop-left-test.false c.loop-left.invariant.rests,
+        rests-none c.args.options c.loop-left.left c.loop-left.world (steps_of (unwatched c.args.options) c.args.world.now) c.loop-left-test.false c.loop-left.invariant.rests,
         so_far.1,
         c.loop-left.invariant.failed,
       ),
