@@ -2,10 +2,10 @@ mod CheckLemmas
 mod CountedLemmas
 mod DebugLemmas
 mod DrawnLemmas
-mod FormulaLemmas
+mod ExecutedLemmas
+mod GivenLemmas
 mod HearingLemmas
 mod KeepLemmas
-mod ObjectLemmas
 mod PlainLemmas
 mod PrintLemmas
 mod PrintRunLemmas

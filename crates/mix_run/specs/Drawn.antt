@@ -4,7 +4,7 @@ use Rattle.mixal_asm.specs.Program.{ProgramValue}
 use Rattle.mix_machine.specs.units.Units.{UnitsState}
 use Rattle.mix_session.specs.declared.fault.Refusal.{Refusal}
 use Rattle.mix_session.specs.Session.{opened}
-use Rattle.mix_run.specs.Counted.{EndTableValue, end_table_asked}
+use Rattle.mix_run.specs.Counted.{end_table_asked}
 use Rattle.mix_run.specs.Opening.{is_picture}
 use Rattle.mix_run.specs.StepTable.{step_table}
 use Rattle.mix_run.specs.declared.print.options.PrintOptions.{PrintOptions}
@@ -24,7 +24,7 @@ abbrev pub DrawnSteps : PrintOptions → List ℕ → ProgramValue → UnitsStat
 DrawnSteps options part program units map = DrawnIf (is_drawn options.map (step_table options.table part (opened program units))) map
 
 -- nothing is run, and nothing drawn, where the values of names cannot be read by which the formulas are to be checked
-abbrev pub DrawnBy : Result (Option EndTableValue) Refusal → PrintOptions → List ℕ → ProgramValue → UnitsState → List ℕ → Type 0
+abbrev pub DrawnBy : Result Bool Refusal → PrintOptions → List ℕ → ProgramValue → UnitsState → List ℕ → Type 0
 DrawnBy (Ok table) options subject program units map = DrawnSteps options subject program units map
 DrawnBy (Err refusal) options subject program units map = map ≡ []
 

@@ -4,8 +4,8 @@ pub mod Check
 pub mod Debug
 pub mod Drawn
 pub mod Counted
+pub mod Executed
 pub mod Fault
-pub mod Formulas
 pub mod Hearing
 pub mod Keep
 pub mod Opening
@@ -22,7 +22,6 @@ pub mod Saves
 pub mod Sources
 pub mod StepTable
 pub mod Stretch
-pub mod Table
 pub mod Talk
 pub mod UnitsRead
 pub mod Writes

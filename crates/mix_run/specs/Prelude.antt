@@ -2,13 +2,12 @@
 pub use Rattle.mix_run.specs.Asked.{after_lines, answers, asked, is_over, is_quit, recalled_all}
 pub use Rattle.mix_run.specs.Bundle.{origin_of}
 pub use Rattle.mix_run.specs.Check.{Checks, Named, Reported}
-pub use Rattle.mix_run.specs.Counted.{EndTableValue, count_rows_at, end_table_asked}
-unfoldable pub use Rattle.mix_run.specs.Counted.{count_rows, counted_run}
+pub use Rattle.mix_run.specs.Counted.{end_table_asked}
+unfoldable pub use Rattle.mix_run.specs.Counted.{counted_run}
 pub use Rattle.mix_run.specs.Debug.{origin_given}
 unfoldable pub use Rattle.mix_run.specs.Debug.{debug_output}
 pub use Rattle.mix_run.specs.Drawn.{DrawnIf, DrawnRun}
 pub use Rattle.mix_run.specs.Fault.{IsMemoryOrRead, IsMemoryOrWrite, fault_of_read}
-pub use Rattle.mix_run.specs.Formulas.{formula_names, formula_rows}
 pub use Rattle.mix_run.specs.Hearing.{Answered}
 pub use Rattle.mix_run.specs.Keep.{kept_if}
 pub use Rattle.mix_run.specs.Opening.{Asks, Files, GivesText, Missing, Opens, Saved, WhyUnsaved, asked_of, missing_of, named, noted, opened_text, refused_by}
@@ -21,10 +20,8 @@ unfoldable pub use Rattle.mix_run.specs.PrintOutput.{outcome_of_run}
 pub use Rattle.mix_run.specs.PrintSteps.{HasCounts, conflicts_after}
 pub use Rattle.mix_run.specs.Reload.{begun}
 pub use Rattle.mix_run.specs.Sources.{Knows}
-pub use Rattle.mix_run.specs.StepTable.{columns_of, run_told, tabled}
+pub use Rattle.mix_run.specs.StepTable.{run_told}
 pub use Rattle.mix_run.specs.Stretch.{talk_of, typed_line}
-pub use Rattle.mix_run.specs.Table.{FieldValue, footer_text, header_text, rows_text}
-unfoldable pub use Rattle.mix_run.specs.Table.{row_text, table_text}
 pub use Rattle.mix_run.specs.Talk.{is_too_long, is_whole, max_line_bytes}
 pub use Rattle.mix_run.specs.UnitsRead.{GivesUnits, deck_given}
 pub use Rattle.mix_run.specs.Writes.{Writes}

@@ -1,11 +1,11 @@
 -- What a run of a program writes, answers and keeps: a function of the program, its units, and what is asked for.
-use Rattle.std.specs.Prelude.{◌≡◌, ℕ, Option, None, Some, option_and_then, List, [], Result, Ok, Err}
+use Rattle.std.specs.Prelude.{◌≡◌, ℕ, Bool, true, false, Option, None, Some, option_and_then, List, [], Result, Ok, Err}
 use Rattle.mixal_asm.specs.Program.{ProgramValue}
 use Rattle.mix_machine.specs.Prelude.{loaded, WorldState, UnitsState}
 use Rattle.mix_machine.specs.declared.units.deck_fault.DeckFault.{DeckFault}
 use Rattle.mix_run.specs.declared.fault.ToolFault.{ToolFault}
 unfoldable pub use Rattle.mix_files.specs.Bundle.{parts_of}
-use Rattle.mix_run.specs.Counted.{EndTableValue, counted_run, end_table_asked}
+use Rattle.mix_run.specs.Counted.{counted_run, end_table_asked}
 use Rattle.mix_run.specs.Keep.{kept_if}
 use Rattle.mix_run.specs.Print.{Run, counted, line_at}
 use Rattle.mix_run.specs.StepTable.{run_told, step_table}
@@ -44,29 +44,29 @@ ran_to program run = came_to program run.end run.world (counted run.met)
 abbrev pub answered : PrintOptions → ProgramValue → Run → PrintOutcome
 answered options program run = Answered run.bytes (Ran (ran_to program run)) (kept_if options.keep run.world)
 
--- a run told by what it prints or by a table of its steps; nothing is run where the part that the table is of is none
-abbrev pub told_by : PrintOptions → ProgramValue → WorldState → Result (Option StepTable) Refusal → PrintOutcome
-told_by options program w (Ok table) = answered options program (run_told table options program w)
-told_by options program w (Err refusal) = Answered [] (NoTable refusal) []
+-- a run told by what it prints or by a table of its steps, of any text; nothing is run where the part that the table is of is none
+abbrev pub told_by : List ℕ → PrintOptions → ProgramValue → WorldState → Result (Option StepTable) Refusal → PrintOutcome
+told_by text options program w (Ok table) = answered options program (run_told text table options w)
+told_by text options program w (Err refusal) = Answered [] (NoTable refusal) []
 
 -- a program run on the machine that it is loaded into, with its units
-unfoldable pub printed_outcome : PrintOptions → List ℕ → ProgramValue → UnitsState → PrintOutcome
-printed_outcome options part program units =
-    told_by options program (loaded program.words program.start units) (step_table options.table part (opened program units))
+unfoldable pub printed_outcome : List ℕ → PrintOptions → List ℕ → ProgramValue → UnitsState → PrintOutcome
+printed_outcome text options part program units =
+    told_by text options program (loaded program.words program.start units) (step_table options.table part (opened program units))
 
--- the same in a session, with its steps counted; in LaTeX the table of the counts is any text
-unfoldable pub counted_outcome : List ℕ → EndTableValue → PrintOptions → ProgramValue → UnitsState → PrintOutcome
-counted_outcome latex table options program units = answered options program (counted_run latex table options.steps (opened program units))
+-- the same in a session, with its steps counted
+unfoldable pub counted_outcome : List ℕ → PrintOptions → ProgramValue → UnitsState → PrintOutcome
+counted_outcome text options program units = answered options program (counted_run text options.steps (opened program units))
 
 -- nothing is run where the values of names cannot be read by which the formulas are to be checked
-abbrev pub outcome_by : List ℕ → Result (Option EndTableValue) Refusal → PrintOptions → List ℕ → ProgramValue → UnitsState → PrintOutcome
-outcome_by latex (Err refusal) options subject program units = Answered [] (NoTable refusal) []
-outcome_by latex (Ok None) options subject program units = printed_outcome options subject program units
-outcome_by latex (Ok (Some table)) options subject program units = counted_outcome latex table options program units
+abbrev pub outcome_by : List ℕ → Result Bool Refusal → PrintOptions → List ℕ → ProgramValue → UnitsState → PrintOutcome
+outcome_by text (Err refusal) options subject program units = Answered [] (NoTable refusal) []
+outcome_by text (Ok false) options subject program units = printed_outcome text options subject program units
+outcome_by text (Ok true) options subject program units = counted_outcome text options program units
 
 -- which of them is asked for, and of which part or by which values
 unfoldable pub outcome_of_run : List ℕ → PrintOptions → List ℕ → ProgramValue → UnitsState → PrintOutcome
-outcome_of_run latex options subject program units = outcome_by latex (end_table_asked options.table subject) options subject program units
+outcome_of_run text options subject program units = outcome_by text (end_table_asked options.table subject) options subject program units
 
 -- the bytes that an outcome writes
 abbrev pub bytes_of : PrintOutcome → List ℕ

@@ -1,1 +1,2 @@
+pub mod SameDeck
 pub mod Truncation

@@ -5,7 +5,6 @@ ghost use Rattle.mix_run.specs.Prelude.{DrawnRun, Leaves, outcome_of_run};
 mod counts;
 mod drawn;
 mod end_table;
-mod formulas;
 mod given;
 pub(crate) mod loaded;
 pub(crate) mod options;
@@ -13,7 +12,6 @@ mod part;
 mod plain;
 pub(crate) mod row;
 mod rows;
-mod sheet;
 mod steps;
 pub(crate) mod tabled;
 mod trace;
@@ -73,7 +71,7 @@ pub fn run_printed<W: Out>(
     out: &mut W,
 ) -> Result<Printed, ToolFault>
     requires { W.failed out.old < 2 ^ 64 - 1 }
-    ensures { (latex : List ℕ) × Leaves (outcome_of_run latex options subject.now program units) (DrawnRun options subject.now program units) result
+    ensures { (text : List ℕ) × Leaves (outcome_of_run text options subject.now program units) (DrawnRun options subject.now program units) result
         (W.told out.old) (W.failed out.old) (W.told out.new) (W.failed out.new) }
 {
     match end_table_asked(alloc, options.table, subject)? {

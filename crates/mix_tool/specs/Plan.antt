@@ -177,7 +177,7 @@ IsTaken (Some name) status before after =
 -- a run of a program: it is made, unless a file is taken
 abbrev pub PrintsOn : Files → RunPlan → Given → ℕ → Seen → Seen → Type 0
 PrintsOn all run given status before after =
-    ((latex : List ℕ) × PrintRuns (run_output latex run given) (names_of_run run) (string_bytes run.source) (subject_of (option_map string_bytes run.subject))
+    ((text : List ℕ) × PrintRuns (run_output text run given) (names_of_run run) (string_bytes run.source) (subject_of (option_map string_bytes run.subject))
     (option_map string_bytes run.keep) (option_map string_bytes run.svg) status before after)
     ⊎ IsTaken (taken_of all run) status before after
 

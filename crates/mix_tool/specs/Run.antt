@@ -95,16 +95,16 @@ units_asked run own given =
 
 -- an assembled source, with its units
 abbrev pub print_outcome : List ℕ → PrintOptions → List ℕ → Result ProgramValue AsmFault → Result UnitsState DeckFault → PrintOutcome
-print_outcome latex options subject (Err fault) units = Answered [] (Refused fault) []
-print_outcome latex options subject (Ok program) (Err fault) = UnitsRefused fault
-print_outcome latex options subject (Ok program) (Ok units) = outcome_of_run latex options subject program units
+print_outcome text options subject (Err fault) units = Answered [] (Refused fault) []
+print_outcome text options subject (Ok program) (Err fault) = UnitsRefused fault
+print_outcome text options subject (Ok program) (Ok units) = outcome_of_run text options subject program units
 
--- what a run of a plan writes, answers and keeps, by its texts: a source or a bundle, and those that are named beside it; in LaTeX the table of the counts
+-- what a run of a plan writes, answers and keeps, by its texts: a source or a bundle, and those that are named beside it; a table
 -- is any text
 unfoldable pub run_output : List ℕ → RunPlan → Given → PrintOutcome
-run_output latex run given =
+run_output text run given =
     let parts = parts_of given.source in
-    print_outcome latex (options_of run) (subject_of (option_map string_bytes run.subject)) (assembly parts.source) (units_asked run parts.deck given)
+    print_outcome text (options_of run) (subject_of (option_map string_bytes run.subject)) (assembly parts.source) (units_asked run parts.deck given)
 
 -- and which map it draws
 abbrev pub DrawnProgram : PrintOptions → List ℕ → Result ProgramValue AsmFault → Result UnitsState DeckFault → List ℕ → Type 0

@@ -31,7 +31,7 @@ fn print_texts<'p, T: In, R, W: Out, E: Out>(
     requires fresh { AreFresh T.failed texts.old }
     requires out_count { W.failed streams.old.out < 2 ^ 64 - 1 }
     ensures output { (given : Given) → HoldTexts T.rest texts.old given
-        → (latex : List ℕ) × Prints (run_output latex plan.now given) (without_file result) (W.told streams.old.out) (W.told streams.new.out) }
+        → (text : List ℕ) × Prints (run_output text plan.now given) (without_file result) (W.told streams.old.out) (W.told streams.new.out) }
     ensures map { (given : Given) → HoldTexts T.rest texts.old given → IfOk (without_file result) (λ p. run_draws plan.now given p.map.items) }
     ensures file { IfErr result (λ e. IsAmong (names_of_run plan.now) e.file.now) }
     ensures unread { IfErr result (λ e. e.fault ≡ ToolFault.Read → HasFailed T.failed plan.now texts.new e.file.now) }

@@ -1,8 +1,7 @@
 //! A run beside a session: its map is drawn of the session's steps, and a part of which a table is to be is named there.
-ghost use Rattle.std.specs.Prelude.{◌≡◌, ◌<◌, ◌-◌, ◌^◌, IfOk, true};
+ghost use Rattle.std.specs.Prelude.{◌≡◌, ◌<◌, ◌-◌, ◌^◌, ℕ, List, IfOk};
 ghost use Rattle.mix_session.specs.Change.{world_at};
 ghost use Rattle.mix_run.specs.Drawn.{DrawnIf, DrawnSteps};
-ghost use Rattle.mix_run.specs.Opening.{is_picture};
 ghost use Rattle.mix_run.specs.PrintOutput.{Leaves, answered, printed_outcome};
 ghost use Rattle.mix_run.specs.StepTable.{run_told};
 
@@ -33,7 +32,7 @@ pub(super) fn tell_loaded<W: Out>(
     out: &mut W,
 ) -> Result<Printed, ToolFault>
     requires { W.failed out.old < 2 ^ 64 - 1 }
-    ensures { Leaves (printed_outcome options part.now program units) (DrawnSteps options part.now program units) result
+    ensures { (text : List ℕ) × Leaves (printed_outcome text options part.now program units) (DrawnSteps options part.now program units) result
         (W.told out.old) (W.failed out.old) (W.told out.new) (W.failed out.new) }
 {
     let mut session = Session::open(alloc, program, units)?;
@@ -57,8 +56,7 @@ fn tell_session<W: Out>(
     out: &mut W,
 ) -> Result<Printed, ToolFault>
     requires { W.failed out.old < 2 ^ 64 - 1 }
-    ensures { let program = session.old.program in
-        Leaves (answered options program (run_told table.now options program (world_at session.old.timeline 0)))
+    ensures { (text : List ℕ) × Leaves (answered options session.old.program (run_told text table.now options (world_at session.old.timeline 0)))
         (DrawnIf options.map) result
         (W.told out.old) (W.failed out.old) (W.told out.new) (W.failed out.new) }
 {
@@ -105,26 +103,17 @@ fn draw_steps(
         if options.strict {
             back_to(session, clock)?;
         }
-        draw(alloc, session)
-    } else {
-        Ok(Vec::new(alloc))
     }
+    drawn(alloc, session, options.map)
 }
 
 /// The map of the changes of a session, if it is asked for.
-pub(super) fn draw_if(alloc: Global, session: &Session, map: bool) -> Result<Vec<u8>, Memory>
-    ensures { IfOk result (λ text. DrawnIf map text.items) }
+pub(super) fn drawn(alloc: Global, session: &Session, asked: bool) -> Result<Vec<u8>, Memory>
+    ensures { IfOk result (λ text. DrawnIf asked text.items) }
 {
-    if map {
-        draw(alloc, session)
-    } else {
-        Ok(Vec::new(alloc))
+    if !asked {
+        return Ok(Vec::new(alloc));
     }
-}
-
-fn draw(alloc: Global, session: &Session) -> Result<Vec<u8>, Memory>
-    ensures { IfOk result (λ text. is_picture text.items ≡ true) }
-{
     let total = session.changes().len();
     let columns = columns_of(total);
     let span = Span {

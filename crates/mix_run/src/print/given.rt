@@ -4,14 +4,14 @@ ghost use Rattle.std.specs.List.{slice_split};
 ghost use Rattle.mix_formula.specs.Names.{all_named};
 ghost use Rattle.mix_views.specs.Analysis.{given_in};
 ghost use Rattle.mixal_text.specs.Prelude.{is_comma, pieces_of};
-ghost use Rattle.mix_run.specs.Formulas.{given_by};
+ghost use Rattle.mix_run.specs.Counted.{given_by};
 
 use mix_formula::{Named, given_of};
 use mix_refused::Memory;
 use std::alloc::Global;
 
 /// The values that a text gives, if it has nothing else; an empty one gives none.
-#[tactic(auto, unfolding(crate::specs::Formulas::given_by))]
+#[tactic(auto, unfolding(crate::specs::Counted::given_by))]
 pub(super) fn given_by<'a>(alloc: Global, text: &'a [u8]) -> Result<Option<Vec<Named<'a>>>, Memory>
     ensures { IfOk result (λ given. option_map (λ values. all_named values.items) given ≡ given_by text.entry.now) }
 {
@@ -23,7 +23,7 @@ pub(super) fn given_by<'a>(alloc: Global, text: &'a [u8]) -> Result<Option<Vec<N
 }
 
 // The values between the commas of a text, if there is one in each place.
-#[tactic(auto, using(crate::proofs::FormulaLemmas::given))]
+#[tactic(auto, using(crate::proofs::GivenLemmas::given))]
 fn given_in<'a>(alloc: Global, text: &'a [u8]) -> Result<Option<Vec<Named<'a>>>, Memory>
     ensures { IfOk result (λ given. option_map (λ values. all_named values.items) given ≡ given_in (slice_split is_comma text.entry.now)) }
 {

@@ -1,5 +1,5 @@
 //! A program run on the machine that it is loaded into: where it comes to, and what it leaves.
-ghost use Rattle.std.specs.Prelude.{◌≡◌, ◌++◌, ◌<◌, ◌-◌, ◌^◌, [], IfOk, OnOk, option_and_then};
+ghost use Rattle.std.specs.Prelude.{◌≡◌, ◌++◌, ◌<◌, ◌-◌, ◌^◌, ℕ, List, [], IfOk, OnOk, option_and_then};
 ghost use Rattle.mix_machine.specs.Loaded.{loaded};
 ghost use Rattle.mix_run.specs.Prelude.{kept_if, Leaves, answered, came_to, run_told, Writes, Ran};
 ghost use Rattle.mix_run.specs.Print.{counted, line_at, registers_if, run_of};
@@ -132,13 +132,13 @@ pub(super) fn tell_steps<W: Out>(
     out: &mut W,
 ) -> Result<Stepped, ToolFault>
     requires { W.failed out.old < 2 ^ 64 - 1 }
-    ensures { let run = run_told table.now options program.now world.old in
+    ensures { (text : List ℕ) × (let run = run_told text table.now options world.old in
         Writes run.bytes (λ s. (s.end ≡ run.end) × (s.conflicts ≡ counted run.met) × (world.new ≡ run.world)) result
-        (W.told out.old) (W.failed out.old) (W.told out.new) (W.failed out.new) }
+        (W.told out.old) (W.failed out.old) (W.told out.new) (W.failed out.new)) }
 {
     match table {
         None => print_run(alloc, world, options, out),
-        Some(table) => write_table(alloc, program, table, options.steps, world, out),
+        Some(table) => write_table(alloc, program, table, options, world, out),
     }
 }
 

@@ -1,7 +1,7 @@
 //! The table of steps that is asked for, and the part of the machine that it is of.
-ghost use Rattle.std.specs.Prelude.{◌≡◌, ◌++◌, IfOk, Ok, codes};
+ghost use Rattle.std.specs.Prelude.{◌≡◌, ◌++◌, IfOk, codes};
 ghost use Rattle.mix_session.specs.Client.{condition_at};
-ghost use Rattle.mix_run.specs.StepTable.{part_of, part_named, step_table, table_of};
+ghost use Rattle.mix_run.specs.StepTable.{part_of, part_named, step_table};
 
 use crate::print::options::{AskedTable, TableOf};
 use crate::print::tabled::StepTable;
@@ -31,31 +31,16 @@ pub(super) fn step_table(
     requires { cell.now ≡ codes "cell " ++ part.now }
     ensures { result ≡ step_table asked part.now session.now }
 {
-    match asked {
-        None => Ok(None),
-        Some(asked) => table_of(session, asked, part, cell),
-    }
-}
-
-fn table_of(
-    session: &Session,
-    asked: AskedTable,
-    part: &[u8],
-    cell: &[u8],
-) -> Result<Option<StepTable>, Refusal>
-    requires { cell.now ≡ codes "cell " ++ part.now }
-    ensures { result ≡ table_of asked.of asked (part_named session.now part.now) }
-{
-    match asked.of {
+    let Some(AskedTable { of, format }) = asked else {
+        return Ok(None);
+    };
+    match of {
         TableOf::Counts | TableOf::Formulas => Ok(None),
-        TableOf::Trace => Ok(Some(StepTable {
-            format: asked.format,
-            part: None,
-        })),
+        TableOf::Trace => Ok(Some(StepTable { format, part: None })),
         TableOf::Writes => match part_named(session, part, cell) {
             Err(refusal) => Err(refusal),
             Ok(part) => Ok(Some(StepTable {
-                format: asked.format,
+                format,
                 part: Some(part),
             })),
         },
@@ -73,21 +58,13 @@ fn part_named(session: &Session, part: &[u8], cell: &[u8]) -> Result<Part, Refus
     }
 }
 
+// The part that a text names as it is, if it is one that a condition has.
 fn part_at(session: &Session, text: &[u8]) -> Result<Part, Refusal>
     ensures { result ≡ part_of (condition_at session.now text.now) }
 {
     match session.condition(text) {
         Err(refusal) => Err(refusal),
-        Ok(condition) => part_of(&condition),
-    }
-}
-
-// The part that a condition is on, if it is one that it alters.
-fn part_of(condition: &Condition) -> Result<Part, Refusal>
-    ensures { result ≡ part_of (Ok condition.now) }
-{
-    match condition {
-        Condition::Alters(part) => Ok(*part),
-        Condition::At(_) | Condition::Conflicts => Err(Refusal::BadArgument),
+        Ok(Condition::Alters(part)) => Ok(part),
+        Ok(Condition::At(_) | Condition::Conflicts) => Err(Refusal::BadArgument),
     }
 }

@@ -43,13 +43,13 @@ returns-in-Err-units_of_run-clause-output g c given holds = (
 pub returns-clause-output : goal.returns-clause-output
 returns-clause-output g c given holds =
     let part = c.as_bytes-subject.ensures.value ∙ c.subject_of.ensures in
-    let latex = c.run_printed-printed.ensures.0 in
-    let outcome = outcome_of_run latex c.options_of-options.result c.as_bytes-subject.result.now c.in-Ok-assemble.program c.in-Ok-units_of_run.units in
+    let text = c.run_printed-printed.ensures.0 in
+    let outcome = outcome_of_run text c.options_of-options.result c.as_bytes-subject.result.now c.in-Ok-assemble.program c.in-Ok-units_of_run.units in
     let drawn = DrawnRun c.options_of-options.result c.as_bytes-subject.result.now c.in-Ok-assemble.program c.in-Ok-units_of_run.units in
     let prints = leaves-prints outcome drawn c.run_printed-printed.result _ _ _ _ c.run_printed-printed.ensures.1 in (
-      latex,
-      subst (λ r. Prints (run_output latex c.args.plan.now given) r (g.W.Out.told c.args.streams.now.out) (g.W.Out.told c.run_printed-printed.new.out))
-          (sym c.of_file-in-Ok-assemble.ensures.answer) (prints-made latex c.args.plan.now given _ _ _ c.in-Ok-assemble.program c.in-Ok-units_of_run.units c.run_printed-printed.result _ _
+      text,
+      subst (λ r. Prints (run_output text c.args.plan.now given) r (g.W.Out.told c.args.streams.now.out) (g.W.Out.told c.run_printed-printed.new.out))
+          (sym c.of_file-in-Ok-assemble.ensures.answer) (prints-made text c.args.plan.now given _ _ _ c.in-Ok-assemble.program c.in-Ok-units_of_run.units c.run_printed-printed.result _ _
           (c.deref.ensures.value ∙ c.in-Ok.ensures.whole given.source holds.source) c.parts_of-parts.ensures.source c.parts_of-parts.ensures.deck
           c.in-Ok-assemble.ensures.ok (c.in-Ok-units_of_run.ensures.units given holds.deck holds.cards holds.typewriter)
           (rw (c.options_of-options.ensures, part) at prints)),
@@ -58,8 +58,8 @@ returns-clause-output g c given holds =
 pub returns-clause-map : goal.returns-clause-map
 returns-clause-map g c given holds =
     let part = c.as_bytes-subject.ensures.value ∙ c.subject_of.ensures in
-    let latex = c.run_printed-printed.ensures.0 in
-    let outcome = outcome_of_run latex c.options_of-options.result c.as_bytes-subject.result.now c.in-Ok-assemble.program c.in-Ok-units_of_run.units in
+    let text = c.run_printed-printed.ensures.0 in
+    let outcome = outcome_of_run text c.options_of-options.result c.as_bytes-subject.result.now c.in-Ok-assemble.program c.in-Ok-units_of_run.units in
     let drawn = DrawnRun c.options_of-options.result c.as_bytes-subject.result.now c.in-Ok-assemble.program c.in-Ok-units_of_run.units in
     let map = leaves-map outcome drawn c.run_printed-printed.result _ _ _ _ c.run_printed-printed.ensures.1 in
     subst (λ r. IfOk r (λ p. run_draws c.args.plan.now given p.map.items))

@@ -18,13 +18,13 @@ returns-in_err-write_all g c =
     let p = err_from_is_err_and c.from_residual-in_err-write_all.result c.from_residual-in_err-write_all.ensures.1 in
     rw (p.1, p.2) (
       c.in_ok-made.made.0.items,
-      counted-begun c.args.table.now c.args.options c.args.program c.args.units c.in_ok-session.session c.in_ok-made.made.0.items c.in_ok-made.made.1 _ _ _ _ c.in_ok-session.ensures
+      counted-begun c.args.options c.args.program c.args.units c.in_ok-session.session c.in_ok-made.made.0.items c.in_ok-made.made.1 _ _ _ _ c.in_ok-session.ensures
           c.in_ok-made.ensures (rw c.deref.ensures.value at c.in_err-write_all.ensures.begun) (c.in_err-write_all.ensures.failed.0.0 refl),
     )
 
 pub returns : goal.returns
 returns g c = (
   c.in_ok-made.made.0.items,
-  counted-leaves c.args.table.now c.args.options c.args.program c.args.units c.in_ok-session.session c.in_ok-made.made.0.items c.in_ok-made.made.1 _ _ _ _ c.in_ok-session.ensures
+  counted-leaves c.args.options c.args.program c.args.units c.in_ok-session.session c.in_ok-made.made.0.items c.in_ok-made.made.1 _ _ _ _ c.in_ok-session.ensures
       c.in_ok-made.ensures (rw c.deref.ensures.value at c.in_ok-write_all.ensures.written) (c.in_ok-write_all.ensures.failed.1 (λ e. cc)),
 )

@@ -16,22 +16,22 @@ pub returns-in_err-stepped : goal.returns-in_err-stepped
 returns-in_err-stepped g c =
     let p = err_from_is_err_and c.from_residual-in_err-stepped.result c.from_residual-in_err-stepped.ensures.1 in
     let program = c.args.program.now in
-    rw (p.1, p.2) (broken-as None c.args.options program program c.in_ok-world.world (loaded program.words program.start c.args.units) _ _ _ _ _ refl
+    rw (p.1, p.2) (broken-as [] None c.args.options c.in_ok-world.world (loaded program.words program.start c.args.units) _ _ _ _ _
     (rw (c.words.ensures, c.start.ensures) at c.in_ok-world.ensures) c.in_err-stepped.ensures)
 
 pub returns-in_err-printed : goal.returns-in_err-printed
 returns-in_err-printed g c =
     let p = err_from_is_err_and c.from_residual-in_err-printed.result c.from_residual-in_err-printed.ensures.1 in
     let program = c.args.program.now in
-    let told = told-as None c.args.options program program c.in_ok-world.world (loaded program.words program.start c.args.units) c.print_run.new.world
-    c.in_ok-stepped.stepped _ _ _ _ refl (rw (c.words.ensures, c.start.ensures) at c.in_ok-world.ensures) c.in_ok-stepped.ensures in
+    let told = told-as [] None c.args.options c.in_ok-world.world (loaded program.words program.start c.args.units) c.print_run.new.world
+    c.in_ok-stepped.stepped _ _ _ _ (rw (c.words.ensures, c.start.ensures) at c.in_ok-world.ensures) c.in_ok-stepped.ensures in
     rw (p.1, p.2) (AppendsFront-all _ _ _ told.1, told.2)
 
 pub returns : goal.returns
 returns g c =
     let program = c.args.program.now in
-    let told = told-as None c.args.options program program c.in_ok-world.world (loaded program.words program.start c.args.units) c.print_run.new.world
-    c.in_ok-stepped.stepped _ _ _ _ refl (rw (c.words.ensures, c.start.ensures) at c.in_ok-world.ensures) c.in_ok-stepped.ensures in
+    let told = told-as [] None c.args.options c.in_ok-world.world (loaded program.words program.start c.args.units) c.print_run.new.world
+    c.in_ok-stepped.stepped _ _ _ _ (rw (c.words.ensures, c.start.ensures) at c.in_ok-world.ensures) c.in_ok-stepped.ensures in
     leaves-made c.args.options program program (run_of c.args.options (loaded program.words program.start c.args.units)) c.in_ok-stepped.stepped
     c.print_run.new.world c.in_ok-printed.printed (λ map. map ≡ []) _ _ _ _ refl told c.in_ok-printed.ensures.answer c.in_ok-printed.ensures.deck
     (rw (c.in_ok-printed.ensures.map, c.new.ensures.items) refl)

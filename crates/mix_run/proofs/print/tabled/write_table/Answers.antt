@@ -1,23 +1,59 @@
--- The columns are those of the table that is asked for.
-use Rattle.std.proofs.Common.{◌≡◌, ◌∷◌, [], List, refl}
-use Rattle.mix_run.specs.StepTable.{names_of}
-use Rattle.mix_run.specs.Table.{FieldValue}
-use Rattle.mix_run.proofs.TabledLemmas.{table-run}
+-- What is before the rows, they, and what is after them.
+use Rattle.std.proofs.Common.{◌∙◌, ◌++◌, [], refl}
+use Rattle.std.proofs.lemmas.Result.{err_from_is_err_and}
+use Rattle.mix_run.proofs.Written.{Appends-then, AppendsFront-all}
+use Rattle.mix_run.proofs.WritesLemmas.{begun-none, broken-then, writes-failed}
 use Rattle.mix_run.proofs.print.tabled.write_table.Goals as goal
 
-pub returns-in-None : goal.returns-in-None
-returns-in-None g c =
-    let names : List FieldValue =
-    c.text.result ∷ c.text-in-None.result ∷ c.text-in-None-2.result ∷ c.text-in-None-3.result ∷ c.text-in-None-4.result ∷
-    c.text-in-None-5.result ∷ c.text-in-None-6.result ∷ c.text-in-None-7.result ∷ c.text-in-None-8.result ∷ c.text-in-None-9.result ∷
-    c.text-in-None-10.result ∷ c.text-in-None-11.result ∷ c.text-in-None-12.result ∷ c.text-in-None-13.result ∷ c.text-in-None-14.result ∷
-    c.text-in-None-15.result ∷ [] in
-    let named : names ≡ names_of c.args.table.now.part = rw (c.in-None.is, c.text.ensures, c.text-in-None.ensures, c.text-in-None-2.ensures, c.text-in-None-3.ensures, c.text-in-None-4.ensures, c.text-in-None-5.ensures, c.text-in-None-6.ensures, c.text-in-None-7.ensures, c.text-in-None-8.ensures, c.text-in-None-9.ensures, c.text-in-None-10.ensures, c.text-in-None-11.ensures, c.text-in-None-12.ensures, c.text-in-None-13.ensures, c.text-in-None-14.ensures, c.text-in-None-15.ensures) refl in
-    table-run _ c.args.table.now c.args.steps c.args.program.now c.args.world.now _ names _ _ _ _ _ named refl c.write_rows.ensures
+pub returns-in_err-table : goal.returns-in_err-table
+returns-in_err-table g c =
+    let p = err_from_is_err_and c.from_residual.result c.from_residual.ensures.1 in rw (p.1, p.2) ([], (begun-none _ _, refl))
 
-pub returns-in-Some : goal.returns-in-Some
-returns-in-Some g c =
-    let names : List FieldValue =
-    c.text-in-Some.result ∷ c.text-in-Some-2.result ∷ c.text-in-Some-3.result ∷ c.text-in-Some-4.result ∷ c.text-in-Some-5.result ∷ [] in
-    let named : names ≡ names_of c.args.table.now.part = rw (c.in-Some.is, c.text-in-Some.ensures, c.text-in-Some-2.ensures, c.text-in-Some-3.ensures, c.text-in-Some-4.ensures, c.text-in-Some-5.ensures) refl in
-    table-run _ c.args.table.now c.args.steps c.args.program.now c.args.world.now _ names _ _ _ _ _ named refl c.write_rows-in-Some.ensures
+pub returns-in_err-write_all : goal.returns-in_err-write_all
+returns-in_err-write_all g c =
+    let p = err_from_is_err_and c.from_residual-in_err-write_all.result c.from_residual-in_err-write_all.ensures.1 in
+    rw (p.1, p.2) (c.deref.result.now, (c.in_err-write_all.ensures.begun, c.in_err-write_all.ensures.failed.0.0 refl))
+
+pub returns-in_err-end : goal.returns-in_err-end
+returns-in_err-end g c =
+    let p = err_from_is_err_and c.from_residual-in_err-end.result c.from_residual-in_err-end.ensures.1 in
+    let front = c.deref.result.now in
+    let rows = c.in_err-end.ensures in
+    rw (p.1, p.2) (
+      front ++ (rows.0 ++ []),
+      broken-then front rows.0 [] _ _ _ _ _ _ _ _ c.in_ok-write_all.ensures.written (c.in_ok-write_all.ensures.failed.1 (λ e. cc)) refl rows.1,
+    )
+
+pub returns-in_err-end-2 : goal.returns-in_err-end-2
+returns-in_err-end-2 g c =
+    let p = err_from_is_err_and c.from_residual-in_err-end-2.result c.from_residual-in_err-end-2.ensures.1 in
+    let rows = c.in_ok-end.ensures in
+    rw (p.1, p.2) (
+      c.deref.result.now ++ rows.0,
+      (
+        AppendsFront-all _ _ _ (Appends-then _ _ _ _ _ c.in_ok-write_all.ensures.written rows.1.1),
+        rows.1.2 ∙ c.in_ok-write_all.ensures.failed.1 (λ e. cc),
+      ),
+    )
+
+pub returns-in_err-write_all-2 : goal.returns-in_err-write_all-2
+returns-in_err-write_all-2 g c =
+    let p = err_from_is_err_and c.from_residual-in_err-write_all-2.result c.from_residual-in_err-write_all-2.ensures.1 in
+    let rows = c.in_ok-end.ensures in
+    let front = c.deref.result.now ++ rows.0 in
+    rw (p.1, p.2) (
+      front ++ (c.deref-2.result.now ++ []),
+      writes-failed front _ [] _ _ _ _ _ _ _ (Appends-then _ _ _ _ _ c.in_ok-write_all.ensures.written rows.1.1)
+          (rows.1.2 ∙ c.in_ok-write_all.ensures.failed.1 (λ e. cc)) refl c.in_err-write_all-2.ensures.begun (c.in_err-write_all-2.ensures.failed.0.0 refl),
+    )
+
+pub returns : goal.returns
+returns g c =
+    let rows = c.in_ok-end.ensures in (
+      (c.deref.result.now ++ rows.0) ++ c.deref-2.result.now,
+      (
+        (rw c.alone.ensures.end rows.1.0.0, c.alone.ensures.conflicts, rows.1.0.1),
+        Appends-then _ _ _ _ _ (Appends-then _ _ _ _ _ c.in_ok-write_all.ensures.written rows.1.1) c.in_ok-write_all-2.ensures.written,
+        c.in_ok-write_all-2.ensures.failed.1 (λ e. cc) ∙ rows.1.2 ∙ c.in_ok-write_all.ensures.failed.1 (λ e. cc),
+      ),
+    )

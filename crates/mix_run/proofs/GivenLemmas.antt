@@ -1,19 +1,12 @@
--- The table of formulas, and the values that are given to names, one after the other.
-use Rattle.std.proofs.Common.{◌≡◌, ◌∙◌, ℕ, List, [], ◌∷◌, ◌++◌, Bool, true, false, Option, None, Some, ap, codes, refl, sym, append_assoc, if◌then◌else◌}
+-- The values that are given to names, one after the other.
+use Rattle.std.proofs.Common.{◌≡◌, ◌∙◌, ℕ, List, [], ◌∷◌, ◌++◌, Option, None, Some, ap, refl, sym, append_assoc}
 use Rattle.std.proofs.lemmas.List.{append-nil, map-append}
-use Rattle.std.proofs.lemmas.Str.{IsUtf8-from_is_utf8, is_utf8-from_IsUtf8}
 use Rattle.std.specs.List.{slice_split}
 use Rattle.std.specs.Option.{option_and_then}
-use Rattle.std.specs.Str.{IsUtf8, is_utf8}
-use Rattle.mix_formula.specs.Prelude.{all_values, given_of, NameValue, all_named, named, RowValue}
+use Rattle.mix_formula.specs.Prelude.{given_of, NameValue, all_named, named}
 use Rattle.mix_formula.specs.declared.names.Named.{Named}
 use Rattle.mix_views.specs.Analysis.{given_first, given_in, given_onto}
 use Rattle.mixal_text.specs.Prelude.{is_comma, pieces_of}
-use Rattle.mix_run.specs.Formulas.{formula_field, formula_names, formula_rows, lines_table}
-use Rattle.mix_run.specs.Table.{FieldValue, Text, Missing, footer_text, header_text, rows_text, table_text}
-use Rattle.mix_run.specs.declared.table.TableFormat.{TableFormat}
-
--- ---- the values that are given
 
 -- before what is given there is nothing
 pub given-none : (more : Option (List NameValue)) → given_onto [] more ≡ more
@@ -52,29 +45,4 @@ piece-refused given pieces piece more all so_far cut is = sym (left-from given p
 pub pieces-done : (given : List Named) (all : Option (List NameValue)) → given_onto (all_named given) (given_in []) ≡ all → Some (all_named given) ≡ all
 pieces-done given all so_far = sym (ap Some (append-nil (all_named given))) ∙ so_far
 
--- ---- the table
-
-pub text-field : (formula text : List ℕ) → text ≡ formula → IsUtf8 formula → Text text ≡ formula_field formula
-text-field formula text same is = rw (same, is_utf8-from_IsUtf8 formula is) refl
-
-pub missing-field : (formula : List ℕ) → (IsUtf8 formula → ⊥) → Missing ≡ formula_field formula
-missing-field formula never = go (is_utf8 formula) refl
-  where
-    go : (b : Bool) → is_utf8 formula ≡ b → Missing ≡ (if b then Text formula else Missing)
-    go true e = absurd (never (IsUtf8-from_is_utf8 formula e))
-    go false e = refl
-
--- what is before the rows, the rows, and what is after them
-pub lines-made : (format : TableFormat) (given values : List NameValue) (rows : List RowValue) (names : List FieldValue) (none begun filled whole : List ℕ)
-    → none ≡ [] → names ≡ formula_names → values ≡ all_values rows given → begun ≡ none ++ header_text format (codes "rrrlrl") names
-    → filled ≡ begun ++ rows_text format formula_names true (formula_rows values rows) → whole ≡ filled ++ footer_text format
-    → whole ≡ lines_table format given rows
-unfolding lines_table table_text
-lines-made format given values rows names none begun filled whole en is_named found eb ef ew =
-    rw (ew, ef, eb, en, is_named, found)
-    (append_assoc (header_text format (codes "rrrlrl") formula_names) (rows_text format formula_names true (formula_rows (all_values rows given) rows))
-    (footer_text format))
-
 pub ruleset given = (given-none, piece-given, piece-refused, pieces-done)
-
-pub ruleset fields = (text-field, missing-field)
