@@ -15,8 +15,8 @@ BYTES = (0, 0, 1, 9, 10, 19, 20, 29, 30, 39, 40, 62, 63)
 
 def either(r, *ways):
     """What one of several functions gives; each is after its weight."""
-    (way,) = r.choices(ways[1::2], ways[::2])
-    return way()
+    pairs = zip(ways[::2], ways[1::2])
+    return r.choice([way for weight, way in pairs for _ in range(weight)])()
 
 
 def signed(r, magnitude):
