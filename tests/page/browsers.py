@@ -120,9 +120,10 @@ class WebKit(Page):
         return self
 
     def go(self, address):
-        super().go(address)
-        self.js("keepAll")
-        return self
+        return super().go(address).do("keepAll")
+
+    def again(self):
+        return super().again().do("keepAll")
 
     def one(self, name):
         return self.seen(super().one(name))
@@ -143,7 +144,7 @@ class WebKit(Page):
         return bytes(self.js("kept", "saved"))
 
     def errors(self):
-        return self.js("taken", "faults")
+        return self.js("taken", "complaints")
 
     def requests(self):
         """Nothing is known of them."""

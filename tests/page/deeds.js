@@ -48,10 +48,10 @@ Object.assign(looks, {
     for (const live of all("[role=status], [role=alert]")) new MutationObserver(() => window.told.push(live.textContent.trim())).observe(live, { childList: true, subtree: true });
   },
   keepAll() { // for a browser that has no folder for what is saved and no log of what went wrong
-    window.faults = [];
-    window.addEventListener("error", ({ message }) => window.faults.push(message));
-    window.addEventListener("unhandledrejection", ({ reason }) => window.faults.push(String(reason)));
-    console.error = (...words) => window.faults.push(words.join(" "));
+    window.complaints = [];
+    window.addEventListener("error", ({ message }) => window.complaints.push(message));
+    window.addEventListener("unhandledrejection", ({ reason }) => window.complaints.push(String(reason)));
+    console.error = (...words) => window.complaints.push(words.join(" "));
     keptObject((blob) => blob.arrayBuffer().then((bytes) => { window.saved = [...new Uint8Array(bytes)]; }));
   },
   remove: (selector) => one(selector).remove(),

@@ -130,7 +130,7 @@ class Page(Looks):
     def type(self, name, text):
         """Types a text into a field in place of what is there, and Enter."""
         field = self.brought(name)
-        field.clear()
+        field.send_keys(Keys.CONTROL, "a")
         field.send_keys(text, Keys.ENTER)
         return self.idle()
 

@@ -62,7 +62,7 @@ def test_named(page):
     assert (page.js("kept", "savedName"), kept(saved, "lesson")) == (f"{EXAMPLES[0].stem}-edited.mixal", [EXAMPLES[0].stem])
     page.put("text", OWN)
     assert (page.title(), page.is_seen("notes"), bool(page.value("script-lines"))) == ("your own program", False, False)
-    assert (page.js("kept", "savedName"), page.save().decode()) == ("program.mixal", OWN), "one's own, the file"
+    assert (page.save().decode(), page.js("kept", "savedName")) == (OWN, "program.mixal"), "one's own, the file"
     page.caret(1)
     for _ in range(2):
         page.chord(Keys.CONTROL, "z")
