@@ -10,7 +10,7 @@ import subprocess
 
 import pytest
 
-from tests.asking import TOP
+from tests import TOP
 
 FIGURES = "bench/steps.tsv"
 ROWS = list(csv.DictReader((TOP / FIGURES).open(), delimiter="\t"))
