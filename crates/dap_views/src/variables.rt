@@ -20,7 +20,10 @@ pub fn variables_view(
     world: &World,
     request: &Request,
 ) -> Result<Value, Refused<Fault>> {
-    let Some(scope) = request.number("variablesReference").and_then(scope_of) else {
+    let Some(reference) = request.number("variablesReference") else {
+        return Err(Refused::Fault(Fault::NoSuchThing));
+    };
+    let Some(scope) = scope_of(reference) else {
         return Err(Refused::Fault(Fault::NoSuchThing));
     };
     let list = asked_of(variables_in(alloc, world, scope)?, request);

@@ -11,10 +11,10 @@ use serde_json::{Value, json};
 use std::alloc::Global;
 
 /// The lines that have a formula, each with its value and its count; the names with their values; and what is said beside the lines.
-pub fn analysis_view(
+pub fn analysis_view<'a>(
     alloc: Global,
-    session: &Session,
-    request: &Request,
+    session: &'a Session,
+    request: &'a Request,
 ) -> Result<Value, Refused<Fault>> {
     let of = request.text("of").unwrap_or("");
     match analysis_asked(alloc, session, &mut Words::of(of.as_bytes()))? {

@@ -2,7 +2,7 @@
 
 use crate::view::{put_digits, put_register, word_shown};
 use dap_asked::{Fault, part_named};
-use mix_machine::{Cmp, Mark, Part};
+use mix_machine::{Cmp, Mark, Part, Word};
 use mix_refused::{Memory, Refused};
 use mix_session::{Session, Write};
 use rpc_message::{Fields, Request};
@@ -75,20 +75,30 @@ fn put_mark(
     mark: Mark,
 ) -> Result<(), Memory> {
     match mark {
-        // of a register as many bytes as it has
-        Mark::Word(word) => match part {
-            Part::Register(register) => {
-                let mut held = Fields::new(alloc);
-                put_register(alloc, &mut held, *register, word)?;
-                fields.put(name, held.done())
-            }
-            _ => fields.put(name, word_shown(alloc, word)?),
-        },
+        Mark::Word(word) => fields.put(name, held_shown(alloc, part, word)?),
         Mark::Toggle(is_on) => fields.flag(name, is_on),
-        Mark::Indicator(Cmp::Less) => fields.text(name, "L"),
-        Mark::Indicator(Cmp::Equal) => fields.text(name, "E"),
-        Mark::Indicator(Cmp::Greater) => fields.text(name, "G"),
+        Mark::Indicator(indicator) => fields.text(name, indicator_name(indicator)),
         Mark::Location(location) => fields.number(name, u64::from(location)),
         Mark::Time(time) => put_digits(alloc, fields, name, u128::from(time)),
+    }
+}
+
+fn indicator_name(indicator: Cmp) -> &'static str {
+    match indicator {
+        Cmp::Less => "L",
+        Cmp::Equal => "E",
+        Cmp::Greater => "G",
+    }
+}
+
+// The word that a part held: of a register as many bytes as it has.
+fn held_shown(alloc: Global, part: &Part, word: Word) -> Result<Value, Memory> {
+    match part {
+        Part::Register(register) => {
+            let mut fields = Fields::new(alloc);
+            put_register(alloc, &mut fields, *register, word)?;
+            Ok(fields.done())
+        }
+        _ => word_shown(alloc, word),
     }
 }

@@ -3,6 +3,7 @@ use Rattle.std.proofs.Common.{◌∙◌, [], Ok, ap, refl, sym}
 use Rattle.std.proofs.lemmas.Result.{err_from_is_err_and}
 use Rattle.mix_run.specs.Counted.{is_table}
 use Rattle.mix_run.specs.declared.print.PrintAnswer.TheVariants.{NoTable}
+use Rattle.mix_run.specs.declared.print.Shows.TheVariants.{Nothing}
 use Rattle.mix_run.proofs.DrawnLemmas.{leaves-alone, leaves-counted, leaves-refused, leaves-told}
 use Rattle.mix_run.proofs.WritesLemmas.{begun-none}
 use Rattle.mix_run.proofs.print.run_printed.Goals as goal
@@ -15,7 +16,7 @@ pub returns-in-Err : goal.returns-in-Err
 returns-in-Err g c = (
   [],
   leaves-refused [] c.args.options c.args.subject.now c.args.program c.args.units c.in-Err.refusal
-      (record { answer = NoTable c.in-Err.refusal; deck = c.new.result; map = c.new-in-Err.result }) _ _ (sym c.in_ok-refusal.ensures ∙ ap is_table c.in-Err.is) refl
+      (record { answer = NoTable c.in-Err.refusal; shows = Nothing; deck = c.new.result; map = c.new-in-Err.result }) _ _ (sym c.in_ok-refusal.ensures ∙ ap is_table c.in-Err.is) refl
       c.new.ensures.items c.new-in-Err.ensures.items,
 )
 

@@ -2,6 +2,7 @@
 use Rattle.std.proofs.Common.{◌∙◌, [], IfOk, ap, subst, sym}
 use Rattle.mix_run.specs.Prelude.{DrawnRun, outcome_of_run}
 use Rattle.mix_run.specs.declared.print.PrintAnswer.TheVariants.{Refused}
+use Rattle.mix_run.specs.declared.print.Shows.TheVariants.{Nothing}
 use Rattle.mix_run.specs.declared.fault.ToolFault.TheVariants as faults
 use Rattle.mix_tool.specs.Run.{Prints, run_draws, run_output}
 use Rattle.mix_tool.proofs.RunLemmas.{draws-made, draws-refused, leaves-map, leaves-prints, prints-made, prints-no_units, prints-refused, prints-unread}
@@ -22,7 +23,7 @@ returns-in-Err-Memory-clause-output g c given holds =
 pub returns-in-Err-Fault-clause-output : goal.returns-in-Err-Fault-clause-output
 returns-in-Err-Fault-clause-output g c given holds = (
   [],
-  prints-refused [] c.args.plan.now given _ _ _ (record { answer = _; deck = c.new.result; map = c.new-in-Err-Fault.result }) _
+  prints-refused [] c.args.plan.now given _ _ _ (record { answer = _; shows = Nothing; deck = c.new.result; map = c.new-in-Err-Fault.result }) _
       (c.deref.ensures.value ∙ c.in-Ok.ensures.whole given.source holds.source) c.parts_of-parts.ensures.source
       (rw c.in-Err-Fault.field-0-is at c.in-Err-Fault.ensures.fault) (ap Refused c.in-Err-Fault.fault-is) c.new.ensures.items,
 )

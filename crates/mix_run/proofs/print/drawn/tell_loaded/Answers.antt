@@ -2,6 +2,7 @@
 use Rattle.std.proofs.Common.{◌∙◌, [], refl, sym}
 use Rattle.std.proofs.lemmas.Result.{err_from_is_err_and}
 use Rattle.mix_run.specs.declared.print.PrintAnswer.TheVariants.{NoTable}
+use Rattle.mix_run.specs.declared.print.Shows.TheVariants.{Nothing}
 use Rattle.mix_run.proofs.DrawnLemmas.{leaves-none, leaves-opened}
 use Rattle.mix_run.proofs.WritesLemmas.{begun-none}
 use Rattle.mix_run.proofs.print.drawn.tell_loaded.Goals as goal
@@ -18,7 +19,7 @@ pub returns-in-Err : goal.returns-in-Err
 returns-in-Err g c = (
   [],
   leaves-none c.args.options c.args.part.now c.args.program c.args.units c.in_ok-session.session c.in-Err.refusal
-      (record { answer = NoTable c.in-Err.refusal; deck = c.new.result; map = c.new-in-Err.result }) _ _ c.in_ok-session.ensures
+      (record { answer = NoTable c.in-Err.refusal; shows = Nothing; deck = c.new.result; map = c.new-in-Err.result }) _ _ c.in_ok-session.ensures
       (sym c.step_table.ensures ∙ c.in-Err.is) refl c.new.ensures.items c.new-in-Err.ensures.items,
 )
 
