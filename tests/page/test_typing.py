@@ -8,6 +8,9 @@ from tests.page.browsers import slowed
 
 MOST = {2_000: 16, 20_000: 30}  # milliseconds of work for a key, in a text of so many lines
 KEYS = 20
+# Waits for the frame of a key without asking again and again, which would be work of the page.
+DRAWN = """return new Promise((done) => {
+    const look = () => (window.timed.length > arguments[0] ? done() : requestAnimationFrame(look)); look(); })"""
 LINE = "        LDA  1000,2       a remark of some words"  # 20,000 of them are less than a source may have
 
 
@@ -27,7 +30,7 @@ def test_key_times(page, figure, lines, most):
             before = page.work()
             for kind in ("keyDown", "keyUp"):
                 page.command("Input.dispatchKeyEvent", type=kind, text="x", key="x", code="KeyX", windowsVirtualKeyCode=88)
-            page.until(lambda: len(page.js("kept", "timed")) > number)
+            page.script(DRAWN, number)
             spent.append(page.work() - before)
         worked.append(round(statistics.median(spent), 1))
         times.append(round(statistics.median(page.js("kept", "timed")), 1))
