@@ -33,7 +33,9 @@ def test_run(program, folder, source, words, said):
 
 def test_before_conflicts(program, folder):
     """It stands before the steps that conflict with a transfer."""
-    (folder / "p.mixal").write_text(" OUT 9(18)\n STZ 9\n HLT\n END 0\n")
+    (folder / "p.mixal").write_text(
+        " OUT 9(18)\n STZ 9\n HLT\n END 0\n%DEVICES\n%UNIT 18 delay 10\n"
+    )
     shown, _ = streams_of(program, folder, "run", "p.mixal", typed=b"", terminals=("stderr",))
     first, *others = shown.decode().splitlines()
     assert first.startswith("p.mixal: halted at 0003 after ") and others
