@@ -69,7 +69,8 @@ export class Session {
   async see(commands, at = this.done) {
     const { blocks, field, nodes = "" } = this.shown();
     const all = ["mix/state", { cells: [], nonzero: true, instructions: true, field }];
-    const asked = [...commands.map(repl), all, ["mix/units", {}], ...blocks, ...(nodes ? [["mix/nodes", { of: nodes }]] : [])];
+    const drawn = nodes ? [["mix/nodes", { of: nodes }]] : [];
+    const asked = [...commands.map(repl), all, ["mix/units", {}], ...blocks, ...drawn];
     const answers = await this.ask(asked, at);
     const [state, units, ...found] = answers.slice(commands.length).map(({ body }) => body);
     this.at = state.done;

@@ -23,7 +23,8 @@ export function analysisIn({ lines, text }) {
 // And of passages: a row for each, whose last word is of the assertion, if there is one.
 export function passagesIn({ columns, assertion, rows, before }) {
   const told = rows.map(({ state, numbers, holds }) => [state, ...numbers, ...(assertion ? [holds] : [])].map(String));
-  return { heads: ["state", ...columns, assertion].filter(Boolean), rows: told, more: before ? `.. and ${before} before` : "" };
+  const more = before ? `.. and ${before} before` : "";
+  return { heads: ["state", ...columns, assertion].filter(Boolean), rows: told, more };
 }
 
 // The answer to a request, whose words a field completes. A click on a row chooses its first number.
