@@ -10,9 +10,9 @@ const REMARK = /^\*\s*nodes:\s*(from\s.*)/i; // of a source or a script
 const SIZE = /\s(\d+)\s+words\s+each/i;
 
 // With what is `said` of a link that leads to no node.
-function led({ cell, inside, out, back, ...named }) {
+function led({ cell = undefined, inside = undefined, out = undefined, back = false, ...named }) {
   const other = inside === undefined ? out && `out ${out}` : `inside ${inside}`;
-  return { ...named, cell, isBack: Boolean(back), said: cell === undefined ? other || "nil" : "" };
+  return { ...named, cell, isBack: back, said: cell === undefined ? other || "nil" : "" };
 }
 
 // The nodes that the engine tells, with the names of what leads to them.

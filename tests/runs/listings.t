@@ -20,13 +20,13 @@ which are not listed.
 The lines in the columns of the book, in LaTeX: each character of TeX, local symbols, a literal, brackets that are no formula, ALF with and
 without quotation marks. Beyond ASCII remarks have a macro of their own; what is no UTF-8 is a question mark, and so is a control character.
 
-  $ printf '* 100%% #1 $2 a&b_c {x} ~ ^ \\ "q" <-- |\n1H ENT1 3(0:5)  [1] one [2]\n INCA 0,1 [N-1+B*(A+1)//2] sum -- all\n J1P 1B [a_b] never\n\n LDA =5=\n HLT\tthe end\n ALF "A B" quoted\nAB ALF   X\n END 1B\n' >tex.mixal
+  $ printf '* 100%% #1 $2 a&b_c {x} ~ ^ \\ "q" <-- | >\n1H ENT1 3(0:5)  [1] one [2]\n INCA 0,1 [N-1+B*(A+1)//2] sum -- all\n J1P 1B [a_b] never\n\n LDA =5=\n HLT\tthe end\n ALF "A B" quoted\nAB ALF   X\n END 1B\n' >tex.mixal
   $ mixrev list --latex tex.mixal
   \begin{tabular}{rlllrp{0.4\linewidth}}
   \toprule
   line & LOC & OP & ADDRESS & times & remarks \\
   \midrule
-  1 & \texttt{*} &  &  &  & 100\% \#1 \$2 a\&b\_c \{x\} \textasciitilde{} \textasciicircum{} \textbackslash{} \char34{}q\char34{} \textless{}{}-{}- \textbar{} \\
+  1 & \texttt{*} &  &  &  & 100\% \#1 \$2 a\&b\_c \{x\} \textasciitilde{} \textasciicircum{} \textbackslash{} \char34{}q\char34{} \textless{}{}-{}- \textbar{} \textgreater{} \\
   2 & \texttt{1H} & \texttt{ENT1} & \texttt{3(0:5)} & $1$ & one [2] \\
   3 &  & \texttt{INCA} & \texttt{0,1} & $N-1+B*(A+1)//2$ & sum -{}- all \\
   4 &  & \texttt{J1P} & \texttt{1B} &  & [a\_b] never \\
