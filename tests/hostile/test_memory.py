@@ -8,11 +8,14 @@ On a program of the repository's own (tests/hostile/again) the call that was ref
 refused."""
 
 import itertools
+import json
 import re
 
 import pytest
 
-from tests.hostile.inputs import BUNDLES, bundle
+from tests.adapter.frames import DONE, frame, framed, launch
+from tests.asking import line
+from tests.hostile.inputs import BUNDLES, bundle, lines
 from tests.model.program import Runner
 
 T1 = b"mixrev: T1 out of memory\n"
@@ -53,13 +56,49 @@ def test_refused(runner, name, how):
         files = [runner.file(*part) for part in parts.items()]
         words = ("debug", *files[:2], "--devices", files[2]) if how == "debug" else ("list", files[0])
         text = b""
-    whole = runner.run(text, words)
+    check_refused(runner, text, words)
+
+
+def check_refused(runner, text, words, goes_on=False):
+    """The same of a run, which makes no file then, and which may go on as ever."""
+    files = [runner.place / name for name in ("kept", "drawn")]
+    made = lambda: [file.unlink() for file in files if file.exists()]
+    whole, _ = runner.run(text, words), made()
     for n, answer, refused in in_turn(runner, text, words, (1, MOST)):
-        if not refused:
+        left = made()
+        if not refused or goes_on and answer == whole:
             assert answer == whole, n
+        else:
+            assert answer[1:] == (T1, 2) and whole[0].startswith(answer[0]) and not left, n
+        if not refused:
             return
-        assert answer[1:] == (T1, 2) and whole[0].startswith(answer[0]), n
     raise AssertionError("no end")
+
+
+SUM = lines(" ENT1 2 [1]", "LOOP DEC1 1 [N]", " J1P LOOP [M]", " OUT 0(18)", " HLT 0 [N*]", " END")
+FAULTY = lines("A EQU 1,", " LAD X", " LDA 5,7", " ALF ABCDEF", "2 HLT", " END 0")
+NODES = {"of": "from 0 to 3, 1 words each, label 0, links 0(0:2), heads I1 0(0:2)"}
+TALK = [("initialize", {}), launch(SUM.decode()), DONE, line("run 9"), ("mix/nodes", NODES),
+        ("mix/passages", {"of": "LOOP of A 0..2 assert A < 1"}), ("mix/analysis", {"of": "M=3"})]
+TEXT, AT = {"uri": "a"}, {"line": 2, "character": 2}
+OPENED = {**TEXT, "languageId": "mixal", "version": 1, "text": FAULTY.decode()}
+EDITED = [("initialize", {"capabilities": {}}), ("textDocument/didOpen", {"textDocument": OPENED}),
+          ("textDocument/formatting", {"textDocument": TEXT}),
+          ("textDocument/hover", {"textDocument": TEXT, "position": AT})]
+MESSAGES = [{"id": k, "method": each[0], "params": each[1]} for k, each in enumerate(EDITED)]
+# The words of a plan, and its standard input.
+PLANS = {
+    "run --counts --csv -": SUM, "run --formulas N=2 --latex -": SUM, "run --trace --json -": SUM,
+    "run --svg drawn -": SUM, "run --keep kept -": SUM, "check -": FAULTY, "check --json -": FAULTY,
+    "list --latex -": SUM, "dap": framed(*TALK),
+    "lsp": b"".join(frame(json.dumps(message).encode()) for message in MESSAGES),
+}
+
+
+@pytest.mark.parametrize("words", PLANS)
+def test_plan_refused(runner, words):
+    """The same of each plan. A run goes on where the report of its source is refused memory."""
+    check_refused(runner, PLANS[words], words.split(), words.startswith("run"))
 
 
 # ---- The same call made again
