@@ -41,9 +41,9 @@ EMACS, VIM = ["emacs", "-Q", "--batch", "--load", f"{HERE}/checked.el", "--funca
 EDITORS = {
     "M-x compile of Emacs": (["emacs-nox:emacs"], [*EMACS, "by-compile"]),
     "Flycheck of Emacs": (["emacs-nox:emacs", "elpa-flycheck"], [*EMACS, "by-flycheck"]),
-    "the quickfix list of Vim": (["vim"], ["vim", "-N", *VIM, "ByMake"]),
+    "the quickfix list of Vim": (["vim:vim.basic"], ["vim.basic", "-N", *VIM, "ByMake"]),
     "the quickfix list of Neovim": (["neovim:nvim"], ["nvim", *VIM, "ByMake"]),
-    "ALE of Vim": (["vim", "vim-ale"], ["vim", "-N", *VIM, "ByAle"]),
+    "ALE of Vim": (["vim:vim.basic", "vim-ale"], ["vim.basic", "-N", *VIM, "ByAle"]),
 }
 
 

@@ -145,7 +145,7 @@ def colours_of_vim(lines):
         source, wrote, script = (pathlib.Path(folder, name) for name in ("source.mixal", "wrote", "script.vim"))
         source.write_text("".join(f"{line}\n" for line in lines), encoding="latin-1")
         script.write_text(VIM % (f"'{EDITORS}/vim'", source, f"'{wrote}'"))
-        subprocess.run(["vim", "-u", "NONE", "-i", "NONE", "-n", "-es", "-c", "set encoding=latin1", "-S", script],
+        subprocess.run(["vim.basic", "-u", "NONE", "-i", "NONE", "-n", "-es", "-c", "set encoding=latin1", "-S", script],
                        stdin=subprocess.DEVNULL, stdout=subprocess.DEVNULL, timeout=300, check=True)
         rows = wrote.read_text().split("\n")[:len(lines)]
     return ["".join(OF_GROUP.get(name.strip(), " ") for name in row.split(",")) if row else "" for row in rows]
@@ -178,8 +178,8 @@ def colours(request):
     """What colours lines."""
     if request.param == "grammar":
         return lambda lines: colours_of_grammar(GRAMMAR, lines)
-    subprocess.run([TOP / "tests/install", "vim"], check=True)
-    if not shutil.which("vim"):
+    subprocess.run([TOP / "tests/install", "vim:vim.basic"], check=True)
+    if not shutil.which("vim.basic"):
         pytest.skip("Vim's syntax in Vim, since there is no vim")
     return colours_of_vim
 
