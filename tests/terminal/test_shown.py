@@ -1,4 +1,4 @@
-"""What a terminal is given of a stranger's bytes."""
+"""What a terminal is given: of a stranger's bytes, and of a halt, which no other stream is told."""
 import itertools
 import os
 import pty
@@ -24,6 +24,10 @@ NONE = [bytes.fromhex(code) for code in (*NONE.split(), "BF")]
 # surrogates.
 EDGES = "\u00a0\u07ff\u0800\ud7ff\ue000\uffff\U00010000\U0010ffff"
 STREAMS = ("stdin", "stdout", "stderr")
+# What `mixrev run` says of a halt whose program shows nothing, and a program that shows a row.
+NOTHING = "; nothing was printed: no OUT to units 17 to 20 was done"
+BLANKS = "; only blank rows were printed: the cells that OUT wrote are +0"
+PRINTS = ' OUT 4(18)\n HLT\n ORIG 4\n ALF "HULLO"\n END 0\n'
 
 
 def streams_of(program, folder, *words, typed=b"", terminals=STREAMS):
@@ -104,3 +108,37 @@ def test_names(program, folder):
     (folder / "bad\x1b[1m.mixal").write_text(" FOO\n END 0\n")
     told = subprocess.run([program, "run", "bad\x1b[1m.mixal"], cwd=folder, capture_output=True, stdin=subprocess.DEVNULL).stderr
     assert told.startswith(b"bad?[1m.mixal:1:2: error: A2")
+
+
+@pytest.mark.parametrize(
+    "source, words, said",
+    [
+        (" ENTA 5\n STA 9\n HLT\n END 0\n", (), f"halted at 0003 after 13 u{NOTHING}"),
+        (" OUT 100(0)\n HLT\n END 0\n", (), f"halted at 0002 after 11 u{NOTHING}"),
+        (" OUT 100(18)\n HLT\n END 0\n", (), f"halted at 0002 after 11 u{BLANKS}"),
+        (" IOC 0(18)\n HLT\n END 0\n", (), f"halted at 0002 after 11 u{BLANKS}"),
+        (PRINTS, (), "halted at 0002 after 11 u"),
+        (PRINTS, ("--unit", "19"), f"halted at 0002 after 11 u{NOTHING}"),
+        (PRINTS, ("--counts",), None),
+        (PRINTS, ("--writes", "A"), None),
+        (" JMP *\n END 0\n", ("--steps", "1"), "1: steps used up at 0000 clock 1"),
+    ],
+)
+def test_halt(program, folder, source, words, said):
+    (folder / "p.mixal").write_text(source)
+    line = "" if said is None else f"p.mixal:{'' if said[0] == '1' else ' '}{said}\n"
+    words = ("run", "p.mixal", *words)
+    shown, piped = streams_of(program, folder, *words, typed=b"", terminals=("stderr",))
+    assert (shown.decode(), set(piped)) == (line, {"stdout"})
+    shown, piped = streams_of(program, folder, *words, typed=b"", terminals=("stdin", "stdout"))
+    assert piped["stderr"].decode() == (line if said and said[0] == "1" else "")
+
+
+def test_halt_before_conflicts(program, folder):
+    """It stands before the steps that conflict with a transfer."""
+    (folder / "p.mixal").write_text(
+        " OUT 9(18)\n STZ 9\n HLT\n END 0\n%DEVICES\n%UNIT 18 delay 10\n"
+    )
+    shown, _ = streams_of(program, folder, "run", "p.mixal", typed=b"", terminals=("stderr",))
+    first, *others = shown.decode().splitlines()
+    assert first.startswith("p.mixal: halted at 0003 after ") and others
