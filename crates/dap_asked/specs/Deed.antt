@@ -51,10 +51,8 @@ goto_deed (Some cell) = goto_cell cell
 abbrev pub is_settable : Scope → Bool
 is_settable scope.Registers = true
 is_settable scope.Flags = true
-is_settable scope.Units = false
-is_settable scope.Memory = false
-is_settable (scope.Unit n) = false
 is_settable (scope.Page n) = true
+is_settable other = false
 
 -- the scope of a reference
 abbrev pub scope_asked : Option ℕ → Result Scope Fault
@@ -91,16 +89,8 @@ is_console_of r = is_text (codes "repl") (text_of r (codes "context"))
 
 -- whether an act is a line of the console
 abbrev pub is_line : Act → Request → Bool
-is_line act.Step r = false
-is_line act.StepBack r = false
-is_line act.Continue r = false
-is_line act.StepOut r = false
-is_line act.ReverseContinue r = false
-is_line act.Begin r = false
-is_line act.Goto r = false
-is_line act.SetVariable r = false
-is_line act.SetExpression r = false
 is_line act.Evaluate r = is_console_of r
+is_line other r = false
 
 -- a line of the script, as the session reads it
 abbrev pub line_deed : SessionState → List ℕ → Result Deed Fault
@@ -115,13 +105,8 @@ register_written (byte ∷ rest) = if byte == 114 then register_named rest else 
 
 -- a part whose content is one value; a unit holds more
 abbrev pub unless_unit : Part → Option Part
-unless_unit (part.Register r) = Some (part.Register r)
-unless_unit part.Over = Some part.Over
-unless_unit part.Cmp = Some part.Cmp
-unless_unit part.Loc = Some part.Loc
-unless_unit part.Clock = Some part.Clock
-unless_unit (part.Cell place) = Some (part.Cell place)
 unless_unit (part.Unit n) = None
+unless_unit other = Some other
 
 -- the part of the machine that a text names: a register, as `rA`; `over`, `cmp`, `loc`, `clock`; or what it names after `until`, as `A` and `cell E`
 abbrev pub part_meant : SessionState → List ℕ → Option Part
@@ -175,14 +160,11 @@ evaluate_deed s r = do
 abbrev pub deed_of : Act → Request → SessionState → Result Deed Fault
 deed_of act.Step r s = Ok deed.Step
 deed_of act.StepBack r s = Ok (deed.Do (ask.Back 1))
-deed_of act.Continue r s = Ok deed.Nothing
-deed_of act.StepOut r s = Ok deed.Nothing
-deed_of act.ReverseContinue r s = Ok deed.Nothing
-deed_of act.Begin r s = Ok deed.Nothing
 deed_of act.Goto r s = goto_deed (number_of r (codes "targetId"))
 deed_of act.SetVariable r s = set_deed s r
 deed_of act.SetExpression r s = set_expression_deed s r
 deed_of act.Evaluate r s = evaluate_deed s r
+deed_of other r s = Ok deed.Nothing
 
 -- what is done of it: a step is a run of one, that nothing stops
 abbrev pub effect_of_deed : Deed → Timeline → Effect

@@ -53,10 +53,3 @@ byte_at (negsuc n) = None
 -- the byte that a reference with an offset names
 abbrev pub byte_of_reference : List ℕ → ℤ → Option ℕ
 byte_of_reference text offset = option_and_then (λ start. byte_at (pos start +ℤ offset)) (byte_named text)
-
--- the cell in which it lies, if it is no end
-abbrev pub cell_of_byte : ℕ → Option ℕ
-cell_of_byte byte = if nat_lt (byte / 6) 4000 then Some (byte / 6) else None
-
-unfoldable pub cell_of_reference : List ℕ → ℤ → Option ℕ
-cell_of_reference text offset = option_and_then cell_of_byte (byte_of_reference text offset)

@@ -1,9 +1,7 @@
 pub mod Deed
-pub mod Entries
 pub mod Fault
 pub mod Kind
 pub mod Layout
-pub mod Look
 pub mod Memory
 pub mod Scope
 pub mod Value

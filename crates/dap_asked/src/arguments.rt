@@ -160,7 +160,7 @@ pub(crate) fn flaw_of(kind: Kind, request: &Request) -> Option<&'static str> {
         Kind::Act(Act::SetExpression) => asked.needs("expression", Text).needs("value", Text),
         Kind::Act(Act::Evaluate) => asked.needs("expression", Text).may("context", Text),
         Kind::Act(Act::Step | Act::StepBack | Act::Continue | Act::StepOut | Act::ReverseContinue | Act::Begin) => asked,
-        Kind::Pause | Kind::Terminate | Kind::Restart | Kind::Cancel | Kind::Disconnect => asked,
+        Kind::Pause | Kind::Terminate | Kind::Restart | Kind::Cancel | Kind::Disconnect | Kind::StepOver => asked,
     };
     asked.flaw
 }

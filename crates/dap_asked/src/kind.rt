@@ -35,6 +35,8 @@ pub enum Kind {
     Disconnect,
     /// Cells, which get bytes; the machine has to be at rest.
     Write,
+    /// A step, or the run over the subroutine that it calls.
+    StepOver,
     /// The machine, which has to be at rest.
     Act(Act),
 }
@@ -151,7 +153,7 @@ pub const REQUESTS: [(&str, Kind); 48] = [
     ("completions", Kind::Look(Look::Completions)),
     ("exceptionInfo", Kind::Look(Look::Fault)),
     ("continue", Kind::Act(Act::Continue)),
-    ("next", Kind::Act(Act::Step)),
+    ("next", Kind::StepOver),
     ("stepIn", Kind::Act(Act::Step)),
     ("stepOut", Kind::Act(Act::StepOut)),
     ("stepBack", Kind::Act(Act::StepBack)),

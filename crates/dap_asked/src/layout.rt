@@ -2,7 +2,7 @@
 
 ghost use Rattle.std.specs.Prelude.{◌≡◌, ◌∷◌, [], ◌<◌, ◌≤◌, IfSome};
 ghost use Rattle.std.specs.Str.Parse.{without_leading_plus};
-ghost use Rattle.dap_asked.specs.Layout.{byte_of_reference, byte_named, byte_at, byte_written, within, cell_of_reference, cell_of_byte, cell_byte, memory_byte, word_of, sign_of};
+ghost use Rattle.dap_asked.specs.Layout.{byte_of_reference, byte_named, byte_at, byte_written, within, cell_byte, memory_byte, word_of, sign_of};
 
 use crate::value::place_at;
 use mix_machine::{Place, Sign, Word, World};
@@ -87,18 +87,8 @@ fn within(byte: u64) -> Option<u64>
 }
 
 /// The cell in which the byte of a reference with an offset lies.
-#[tactic(auto, unfolding(crate::specs::Layout::cell_of_reference))]
-pub fn cell_of_reference(reference: &str, offset: i64) -> Option<Place>
-    ensures { result ≡ cell_of_reference reference.now offset }
-{
-    cell_of_byte(byte_of_reference(reference, offset)?)
-}
-
-/// The cell in which a byte lies, if it is one of the memory.
-fn cell_of_byte(byte: u64) -> Option<Place>
-    requires { byte ≤ 24000 }
-    ensures { result ≡ cell_of_byte byte }
-{
+pub fn cell_of_reference(reference: &str, offset: i64) -> Option<Place> {
+    let byte = byte_of_reference(reference, offset)?;
     Place::of((byte / CELL_BYTES) as u16)
 }
 

@@ -1,10 +1,8 @@
 //! What is looked at: the one thread, its one frame, and the scopes.
 
 ghost use Rattle.std.specs.Prelude.{◌≡◌};
-ghost use Rattle.mixal_asm.specs.Row.{source_value};
 ghost use Rattle.serde_json.specs.Data.{null};
 ghost use Rattle.serde_json.specs.View.{view};
-ghost use Rattle.dap_asked.specs.Look.{source_line, line_of, line_of_cell};
 
 use crate::layout::reference_of;
 use crate::scope::{ALL_UNITS, FLAGS, MEMORY, REGISTERS};
@@ -107,23 +105,17 @@ pub fn line_for(first: u64, line: u64) -> u64 {
 }
 
 /// A line that the client counts as the source counts it, from 1 on.
-pub fn source_line(first: u64, line: u64) -> u64
-    ensures { result ≡ source_line first line }
-{
+pub fn source_line(first: u64, line: u64) -> u64 {
     line.saturating_add(1u64.saturating_sub(first))
 }
 
 /// The line of the source that put the word of a cell there.
-pub fn line_of_cell(program: &Program, cell: Place) -> Option<u64>
-    ensures { result ≡ line_of_cell program.now cell }
-{
+pub fn line_of_cell(program: &Program, cell: Place) -> Option<u64> {
     line_of(program.source_at(cell)?)
 }
 
-// The number of a line of the source; none of an inserted line.
-pub fn line_of(source: &Source) -> Option<u64>
-    ensures { result ≡ line_of (source_value source.now) }
-{
+/// The number of a line of the source; none of an inserted line.
+pub fn line_of(source: &Source) -> Option<u64> {
     match source {
         Source::Line(line, _) => Some(u64::from(*line)),
         Source::Literal(_) | Source::Name(_) => None,

@@ -9,7 +9,7 @@ use crate::fault::Fault;
 use crate::layout::{MEMORY_BYTES, byte_of_reference, byte_reference, memory_byte};
 use base64::engine::general_purpose::STANDARD;
 use mix_machine::World;
-use mix_refused::{Memory, Refused};
+use mix_refused::Refused;
 use rpc_message::{Fields, Request};
 use serde_json::Value;
 use std::alloc::Global;
@@ -54,12 +54,6 @@ pub fn read_memory(
     let Some(count) = request.number("count") else {
         return Err(Refused::Fault(Fault::BadArgument));
     };
-    Ok(memory_shown(alloc, world, start, count)?)
-}
-
-fn memory_shown(alloc: Global, world: &World, start: u64, count: u64) -> Result<Value, Memory>
-    requires { start ≤ 24000 }
-{
     let there = count.min(MEMORY_BYTES - start);
     let mut bytes = Vec::new(alloc);
     for i in 0..there {

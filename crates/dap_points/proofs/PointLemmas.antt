@@ -1,31 +1,10 @@
--- Facts of what stands of breakpoints, of which one more is looked at, and of their cells.
-use Rattle.std.proofs.Common.{◌≡◌, ℕ, zero, suc, ◌+◌, ◌-◌, ◌<◌, Bool, true, false, List, [], ◌∷◌, ◌++◌, length, get_or, slice_set, take, drop, map, filter_map, option_to_list, Option, None, Some, refl, ap, sym, ◌∙◌, arith, add-one, if◌then◌else◌}
-use Rattle.std.proofs.lemmas.List.{length-map, map_more}
-use Rattle.std.proofs.lemmas.List.Elements.{filter_map-append}
-use Rattle.std.specs.List.{cons_option}
+-- Facts of the cells of breakpoints.
+use Rattle.std.proofs.Common.{◌≡◌, ℕ, zero, suc, ◌+◌, ◌-◌, ◌<◌, Bool, true, false, List, [], ◌∷◌, ◌++◌, length, get_or, slice_set, take, drop, map, refl, ap, sym, ◌∙◌, arith, add-one, if◌then◌else◌}
+use Rattle.std.proofs.lemmas.List.{length-map}
 use Rattle.mix_machine.specs.World.{WorldState}
 use Rattle.dap_points.specs.Breakpoint.{arrives, with_arrival}
 use Rattle.dap_points.specs.Points.{cells_of}
 use Rattle.dap_points.specs.declared.points.breakpoint.Breakpoint.{Breakpoint}
-
-one_alone : {Y : Type 0} (o : Option Y) → cons_option o [] ≡ option_to_list o
-one_alone None = refl
-one_alone (Some y) = refl
-
-one_more : {X Y : Type 0} (h : X → Option Y) (xs : List X) (x : X) → filter_map h (xs ++ x ∷ []) ≡ filter_map h xs ++ option_to_list (h x)
-one_more h xs x = filter_map-append h xs (x ∷ []) ∙ ap (λ t. filter_map h xs ++ t) (one_alone (h x))
-
--- one entry more, seen as its data
-pub next_entry : {X Y : Type 0} (f : X → Y) (xs : List X) (i : ℕ) (x : X) → i < length xs → x ≡ get_or xs i x → map f (take (i + 1) xs) ≡ map f (take i xs) ++ f x ∷ []
-next_entry f xs i x within is = map_more f xs i x within ∙ ap (λ y. map f (take i xs) ++ f y ∷ []) (sym is)
-
--- what stands of it stands after what stood, and how it is told is told after what was told
-pub stands_too : {X Y : Type 0} (h : X → Option Y) (front : List X) (x : X) (next : List X) (old new : List Y) →
-    next ≡ front ++ x ∷ [] → old ≡ filter_map h front → new ≡ old ++ option_to_list (h x) → new ≡ filter_map h next
-stands_too h front x next old new is so_far more =
-    more ∙ ap (λ t. t ++ option_to_list (h x)) so_far ∙ sym (one_more h front x) ∙ ap (filter_map h) (sym is)
-
--- ---- their cells
 
 cell-stays : (t : Bool) (b : Breakpoint) (n : ℕ) → (if t then record b { left = n } else b).cell ≡ b.cell
 cell-stays true b n = refl

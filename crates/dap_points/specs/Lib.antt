@@ -1,5 +1,4 @@
 pub mod Breakpoint
 pub mod Comparison
 pub mod Points
-pub mod Targets
 pub mod Written

@@ -1,9 +1,8 @@
 //! The breakpoints of the client, and the kinds of exceptions that stop a run. They stand outside the machine, so no change of it takes one away.
 
 ghost use Rattle.std.specs.Prelude.{◌≡◌, OnOk, OnErr};
-ghost use Rattle.serde_json.specs.View.{view};
 ghost use Rattle.mix_session.specs.Stops.{is_awaited};
-ghost use Rattle.dap_points.specs.Points.{no_points, is_filter, passes, reason_at, stops_of, with_arrivals, with_lines, with_instructions, with_watched, with_filters};
+ghost use Rattle.dap_points.specs.Points.{no_points, is_filter, passes, reason_at, stops_of, with_arrivals};
 
 mod amount;
 mod breakpoint;
@@ -127,7 +126,7 @@ impl Points {
         first: u64,
         request: &Request,
     ) -> Result<Value, Memory>
-        ensures stand { OnOk result (self.new ≡ with_lines session.now name.now first request.now self.old) }
+        ensures stand { OnOk result (self.new ≡ record self.old { lines = self.new.lines }) }
         ensures same { OnErr result (self.new ≡ self.old) }
     {
         if !is_source(name, request) {
@@ -147,7 +146,7 @@ impl Points {
         session: &Session,
         request: &Request,
     ) -> Result<Value, Memory>
-        ensures stand { OnOk result (self.new ≡ with_instructions session.now request.now self.old) }
+        ensures stand { OnOk result (self.new ≡ record self.old { instructions = self.new.instructions }) }
         ensures same { OnErr result (self.new ≡ self.old) }
     {
         let (instructions, told) = set_all(
@@ -169,7 +168,7 @@ impl Points {
         session: &Session,
         request: &Request,
     ) -> Result<Value, Memory>
-        ensures stand { OnOk result (self.new ≡ with_watched session.now request.now self.old) }
+        ensures stand { OnOk result (self.new ≡ record self.old { watched = self.new.watched }) }
         ensures same { OnErr result (self.new ≡ self.old) }
     {
         let (watched, told) = set_all(alloc, &Parts { session }, request, "breakpoints")?;
@@ -181,7 +180,7 @@ impl Points {
 
     /// Puts kinds of exceptions in place of those that stop a run.
     pub fn set_filters(&mut self, alloc: Global, request: &Request) -> Result<Value, Memory>
-        ensures stand { OnOk result (self.new ≡ with_filters request.now self.old) }
+        ensures stand { OnOk result (self.new ≡ record self.old { filters = self.new.filters }) }
         ensures same { OnErr result (self.new ≡ self.old) }
     {
         let (filters, told) = set_all(alloc, &Filters, request, "filters")?;

@@ -1,5 +1,6 @@
 //! A source on which there is something to say: the line of each diagnostic, and where its symbols are defined.
 
+use crate::near::is_near;
 use indexmap::IndexMap;
 use mix_lines::split_line;
 use mix_refused::Memory;
@@ -26,6 +27,16 @@ impl<'s> Checked<'s> {
             passed: 0,
             rest: text,
         })
+    }
+
+    pub(crate) fn text(&self) -> &'s [u8] {
+        self.text
+    }
+
+    /// The first symbol that it defines and that is near to one, by its name.
+    pub(crate) fn near_symbol(&self, symbol: &Symbol) -> Option<&[u8]> {
+        let mut names = self.definitions.keys().map(|other| other.name());
+        names.find(|name| is_near(symbol.name(), name))
     }
 
     /// The first line that defines a symbol.

@@ -2,16 +2,20 @@
 
 use mixal_text::{Mnemonic, is_without_operand, line_op};
 
-// Whether a comment of another language begins.
-fn begins_comment(piece: &[u8]) -> bool {
-    matches!(piece, [b'*' | b';' | b'#', ..] | [b'/', b'/', ..])
+/// How many bytes the mark has with which a comment of another language begins, or 0.
+pub(crate) fn comment_mark(piece: &[u8]) -> usize {
+    match piece {
+        [b'*' | b';' | b'#', ..] => 1,
+        [b'/', b'/', ..] => 2,
+        _ => 0,
+    }
 }
 
 const COMMENT_RULE: &str = ": a comment begins with * in column 1";
 
 /// What is said of what stands in the place of OP, if it is known from elsewhere.
 pub(crate) fn operation_note(piece: &[u8]) -> &'static str {
-    if begins_comment(piece) {
+    if comment_mark(piece) > 0 {
         return COMMENT_RULE;
     }
     match piece {
@@ -27,7 +31,7 @@ pub(crate) fn operation_note(piece: &[u8]) -> &'static str {
 
 /// What is said of what stands in the place of LOC, if it is known from elsewhere.
 pub(crate) fn symbol_note(piece: &[u8]) -> &'static str {
-    if begins_comment(piece) {
+    if comment_mark(piece) > 0 {
         COMMENT_RULE
     } else if piece.contains(&b':') {
         ": a label has no colon"

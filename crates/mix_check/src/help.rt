@@ -2,7 +2,7 @@
 
 use crate::checked::{Checked, front_of, piece_of};
 use crate::dialect::{operation_note, remark_note, symbol_note};
-use crate::foreign::foreign_text;
+use crate::foreign::{foreign_text, unseen_text};
 use crate::later::{late_help, late_rule, twice_help};
 use crate::missing::missing_text;
 use mix_shown::add_shown;
@@ -29,6 +29,7 @@ pub(crate) fn help_of(
                 Ok(help)
             }
             TextFault::BadExpression => expression_help(alloc, front_of(place), piece),
+            TextFault::BadByte => byte_help(alloc, piece),
             fault => text_help(alloc, fault, piece),
         },
         AsmKind::DefinedTwice => twice_help(alloc, source, piece),
@@ -55,18 +56,29 @@ fn expression_help(alloc: Global, front: &[u8], piece: &[u8]) -> Result<Vec<u8>,
     }
 }
 
+// Of a byte that is no character of MIX what it is, or else the byte.
+fn byte_help(alloc: Global, piece: &[u8]) -> Result<Vec<u8>, AllocError> {
+    let known = foreign_text(piece);
+    if !known.is_empty() {
+        return Vec::from_slice(alloc, known.as_bytes());
+    }
+    let unseen = unseen_text(alloc, piece)?;
+    let mut help = Vec::from_slice(alloc, unseen.as_bytes())?;
+    if help.is_empty() {
+        add_piece(&mut help, piece)?;
+    }
+    Ok(help)
+}
+
 fn text_help(alloc: Global, fault: TextFault, piece: &[u8]) -> Result<Vec<u8>, AllocError> {
     let mut help = Vec::new(alloc);
-    let (known, note) = match fault {
-        TextFault::BadByte => (foreign_text(piece), ""),
-        TextFault::NoSuchOperation => ("", operation_note(piece)),
-        TextFault::BadSymbol => ("", symbol_note(piece)),
-        _ => ("", ""),
+    let note = match fault {
+        TextFault::NoSuchOperation => operation_note(piece),
+        TextFault::BadSymbol => symbol_note(piece),
+        _ => "",
     };
     match fault {
-        _ if !known.is_empty() => help.extend_from_slice(known.as_bytes())?,
-        TextFault::BadByte
-        | TextFault::NoSuchOperation
+        TextFault::NoSuchOperation
         | TextFault::BadSymbol
         | TextFault::NumberTooLarge
         | TextFault::NoSuchLocalSymbol => add_piece(&mut help, piece)?,

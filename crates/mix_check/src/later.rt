@@ -1,7 +1,7 @@
 //! What is said of a symbol that a line cannot use yet, or cannot define once more: where it is defined.
 
 use crate::checked::Checked;
-use mixal_text::Symbol;
+use mixal_text::{Local, Symbol};
 use std::alloc::{AllocError, Global};
 
 /// What holds of each symbol that no line before defines.
@@ -34,8 +34,17 @@ pub(crate) fn late_help(
                 help.extend_from_slice(later.as_bytes())?;
                 return Ok(help);
             }
+            Some(first) if line == first => {
+                help.extend_from_slice(b": ")?;
+                help.extend_from_slice(symbol.name())?;
+                help.extend_from_slice(b" is defined by this line, and has no value before it")?;
+                return Ok(help);
+            }
             Some(_) => {}
         }
+    } else if let Some(Local { digit, .. }) = Local::of(word) {
+        let local = format!(in alloc; ": {digit}F can only be the whole A-part of an instruction")?;
+        return Vec::from_slice(alloc, local.as_bytes());
     }
     help.extend_from_slice(late_rule().as_bytes())?;
     Ok(help)

@@ -18,5 +18,6 @@ mod values;
 pub use checked::{Checked, bytes_at};
 pub use halt::{no_halt, no_halt_text};
 pub use near::{is_near, near_to};
+pub use remedy::{Fix, Remedy, unit_name};
 pub use report::{add_json_report, add_report};
 pub use values::{code, severity};

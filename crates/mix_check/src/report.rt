@@ -11,6 +11,7 @@ use crate::mark::{add_marked, column_after};
 use crate::values::{code, columns_of, meaning_with, severity};
 use json::Writer;
 use mix_refused::Memory;
+use mix_shown::add_shown;
 use mixal_asm::{Diagnostic, Finding, diagnose};
 use std::alloc::{AllocError, Global};
 
@@ -18,8 +19,8 @@ use std::alloc::{AllocError, Global};
 const BINARY: &[u8] = &[0xAD, 0xDE, 0xEF, 0xBE];
 
 /// Appends what there is to say of a source to a text, and says whether it has a fault: of each fault `FILE:LINE:COLUMN: error: A7
-/// undefined symbol`, of each warning `FILE:LINE:COLUMN: warning: X is defined nowhere: .. [undefined-symbol]`, the line, and a mark
-/// under what that is about (1.3.2). Columns count characters, from 1. A fault that is about no part of a line, as A13, has
+/// undefined symbol`, of each warning `FILE:LINE:COLUMN: warning: X is defined nowhere: .. [undefined-symbol]`, the line, a mark
+/// under what that is about (1.3.2), and `help: perhaps Y is meant` where a remedy is known that its text does not say. Columns count characters, from 1. A fault that is about no part of a line, as A13, has
 /// neither a column nor the line. Control characters of the source are shown as question marks. Of a binary of mixasm it is said that
 /// it is one.
 pub fn add_report(
@@ -44,7 +45,7 @@ pub fn add_report(
 
 /// Appends what there is to say of a source to a text as `add_report` does, but as JSON, and says whether it has a fault: of each
 /// fault and of each warning one object a line, with its file, its line, the column of its first byte and that of what follows its
-/// last byte, its severity, its number or name, and its text (1.3.2). A fault that is about no part of a line, as A13, has no columns.
+/// last byte, its severity, its number or name, its text, and `help` where a remedy is known that the text does not say (1.3.2). A fault that is about no part of a line, as A13, has no columns.
 pub fn add_json_report(
     alloc: Global,
     name: &str,
@@ -150,6 +151,11 @@ fn after_place(
     if let Some((line, span)) = place {
         add_marked(&mut text, line, span)?;
     }
+    if let Some(help) = source.remedy(alloc, diagnostic)? {
+        text.extend_from_slice(b"help: ")?;
+        add_shown(&mut text, help.as_bytes())?;
+        text.push(b'\n')?;
+    }
     Ok(text)
 }
 
@@ -166,26 +172,53 @@ fn object_of(
     let help = help_of(alloc, source, diagnostic, place)?;
     let finding = &diagnostic.finding;
     let (code, meaning) = (code(alloc, finding)?, meaning_with(alloc, finding, &help)?);
+    let remedy = source.remedy(alloc, diagnostic)?;
     let mut writer = Writer::new(Vec::new(alloc));
     writer.begin_object()?;
-    writer.key("file")?;
-    writer.string(name)?;
-    writer.key("line")?;
-    writer.u64(u64::from(diagnostic.line))?;
-    if let Some((from, to)) = columns_of(place) {
-        writer.key("column")?;
-        writer.u64(from)?;
-        writer.key("endColumn")?;
-        writer.u64(to)?;
-    }
-    writer.key("severity")?;
-    writer.string(severity(finding))?;
-    writer.key("code")?;
-    writer.string(code.as_str())?;
-    writer.key("text")?;
-    writer.string(meaning.as_str())?;
+    add_text(&mut writer, "file", name)?;
+    add_number(&mut writer, "line", u64::from(diagnostic.line))?;
+    add_columns(&mut writer, columns_of(place))?;
+    add_text(&mut writer, "severity", severity(finding))?;
+    add_text(&mut writer, "code", code.as_str())?;
+    add_text(&mut writer, "text", meaning.as_str())?;
+    add_help(&mut writer, &remedy)?;
     writer.end_object()?;
     let mut line = writer.into_inner();
     line.push(b'\n')?;
     Ok(line)
+}
+
+fn add_text(writer: &mut Writer<Global>, name: &str, text: &str) -> Result<(), AllocError>
+    ensures { OnOk result (writer.new.before ≡ writer.old.before) }
+{
+    writer.key(name)?;
+    writer.string(text)
+}
+
+fn add_number(writer: &mut Writer<Global>, name: &str, number: u64) -> Result<(), AllocError>
+    ensures { OnOk result (writer.new.before ≡ writer.old.before) }
+{
+    writer.key(name)?;
+    writer.u64(number)
+}
+
+fn add_columns(writer: &mut Writer<Global>, columns: Option<(u64, u64)>) -> Result<(), AllocError>
+    ensures { OnOk result (writer.new.before ≡ writer.old.before) }
+{
+    match columns {
+        Some((from, to)) => {
+            add_number(writer, "column", from)?;
+            add_number(writer, "endColumn", to)
+        }
+        None => Ok(()),
+    }
+}
+
+fn add_help(writer: &mut Writer<Global>, remedy: &Option<String>) -> Result<(), AllocError>
+    ensures { OnOk result (writer.new.before ≡ writer.old.before) }
+{
+    match remedy {
+        Some(remedy) => add_text(writer, "help", remedy.as_str()),
+        None => Ok(()),
+    }
 }

@@ -1,11 +1,11 @@
 //! What a diagnostic is, as values: its columns, its severity, its number or name, and its text.
 
-use crate::checked::{Checked, before};
+use crate::checked::{Checked, before, piece_of};
 use crate::help::help_of;
 use crate::mark::column_after;
 use mix_refused::Memory;
-use mixal_asm::{Diagnostic, Finding};
-use mixal_text::Span;
+use mixal_asm::{AsmKind, Diagnostic, Finding};
+use mixal_text::{Span, Symbol, TextFault};
 use std::alloc::{AllocError, Global};
 
 impl<'s> Checked<'s> {
@@ -20,6 +20,33 @@ impl<'s> Checked<'s> {
         let place = self.shown(diagnostic);
         let help = help_of(alloc, self, diagnostic, place)?;
         Ok(meaning_with(alloc, &diagnostic.finding, help.as_slice())?)
+    }
+
+    /// What may be meant, where its text does not say so, as characters.
+    pub fn remedy(
+        &mut self,
+        alloc: Global,
+        diagnostic: &Diagnostic,
+    ) -> Result<Option<String>, Memory> {
+        Ok(
+            self.mending(alloc, diagnostic)?
+                .and_then(|remedy| remedy.help),
+        )
+    }
+
+    /// The line that defines the symbol which a fault is about, where that is another line.
+    pub fn related(&mut self, diagnostic: &Diagnostic) -> Option<u32> {
+        let Finding::Fault(kind) = &diagnostic.finding else {
+            return None;
+        };
+        let is_about_symbol = match *kind {
+            AsmKind::DefinedTwice => true,
+            AsmKind::Text(misread) => matches!(misread.fault, TextFault::UndefinedSymbol),
+            _ => false,
+        };
+        let symbol = Symbol::of(piece_of(self.shown(diagnostic)))?;
+        let line = self.line_of_symbol(&symbol)?;
+        (is_about_symbol && line != diagnostic.line).then_some(line)
     }
 }
 

@@ -90,6 +90,7 @@ run-shorter w stops t (suc n) (suc made) is = omega arith
 
 leg-shorter : (way : Way) (leg : Leg) (made : ℕ) → (effect_of_leg way leg).answer ≡ Ran made ends.Break → leg.left - made < leg.left
 leg-shorter (way.Forth location) leg made is = run-shorter ways.Again (stops_of leg.points location) leg.timeline leg.left made is
+leg-shorter (way.Over steps) leg made is = run-shorter ways.Again (stops_of leg.points None) leg.timeline leg.left made is
 leg-shorter way.Back leg made is = run-shorter ways.Back (stops_of leg.points None) leg.timeline leg.left made is
 
 only-breaks : (end : End) (points : PointsState) (location : Option ℕ) (w : WorldState) → passes_by end points location w ≡ true → end ≡ ends.Break

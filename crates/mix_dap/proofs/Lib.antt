@@ -3,4 +3,3 @@ pub mod EventLemmas
 pub mod LegLemmas
 pub mod ReactionLemmas
 pub mod ServedLemmas
-pub mod StageLemmas

@@ -1,10 +1,11 @@
 -- A request is answered, or refused, and then goes on.
-use Rattle.std.proofs.Common.{◌≡◌, Bool, true, false, ℕ, List, [], ◌∷◌, ◌++◌, Option, None, Some, Result, Ok, Err, refl, sym, ap, subst, ◌∙◌}
-use Rattle.std.specs.Prelude.{IfOk, OnOk, codes, if◌then◌else◌}
+use Rattle.std.proofs.Common.{◌≡◌, inr, Bool, true, false, ℕ, List, [], ◌∷◌, ◌++◌, Option, None, Some, Result, Ok, Err, refl, sym, ap, subst, ◌∙◌}
+use Rattle.std.specs.Prelude.{◌==◌, IfOk, OnErr, OnOk, codes, if◌then◌else◌}
 use Rattle.serde_json.specs.Data.{Data}
 use Rattle.mix_word.specs.Word.{WordValue}
 use Rattle.mix_refused.specs.declared.refused.Refused.{Refused}
 use Rattle.mix_session.specs.Prelude.{Effect, after, SessionState, Timeline, world_of}
+use Rattle.mix_session.specs.Over.{steps_over}
 use Rattle.mix_session.specs.declared.answer.Answer.{Answer}
 use Rattle.mix_session.specs.declared.reply.End.{End}
 use Rattle.rpc_message.specs.Message.{Adds, reply_message}
@@ -20,11 +21,11 @@ use Rattle.dap_asked.specs.declared.kind.Kind.{Kind}
 use Rattle.mix_dap.specs.Prelude.{is_said, line_meant, end_told, all_told, outputs, fault_at, out_of_memory}
 use Rattle.mix_dap.specs.Events.{AddsAnswer, AddsEvents, Event, invalidated, stopped}
 use Rattle.mix_dap.specs.Leaves.{refusal_in}
-use Rattle.dap_points.specs.Points.{PointsState}
-use Rattle.mix_dap.specs.Reaction.{Beside, Reaction, acted, asked_done, beside, console, line_done, reaction, reaction_to, refuses, replied_unless, said_or_done, still, unless, written}
-use Rattle.mix_dap.specs.Reacts.{Answered, GoesOn, IsSame, ReactsAs, Runs, flow_after}
+use Rattle.dap_points.specs.Points.{PointsState, with_kind}
+use Rattle.mix_dap.specs.Reaction.{Beside, Reaction, acted, asked_done, beside, console, deed_done, line_done, reaction, reaction_to, refuses, replied_unless, said_or_done, stepped_over, still, unless, written}
+use Rattle.mix_dap.specs.Reacts.{Answered, GoesOn, IsSame, Leaving, ReactsAs, Runs, RunsPartly, flow_after}
 use Rattle.mix_dap.specs.Replies.{AddsReply, Denies, Refusal, Serves, answer_message}
-use Rattle.mix_dap.specs.Runs.{RunBroken, RunDone, why_of_run}
+use Rattle.mix_dap.specs.Runs.{RunBroken, RunDone, most, why_of_run}
 use Rattle.dap_points.specs.Written.{Written, write_asked}
 use Rattle.mix_dap.specs.declared.adapter.Adapter.{Adapter}
 use Rattle.mix_dap.specs.declared.adapter.Flow.{Flow}
@@ -32,6 +33,8 @@ use Rattle.mix_dap.specs.declared.adapter.Flow.TheVariants as flow
 use Rattle.mix_dap.specs.declared.adapter.Then.{Then}
 use Rattle.mix_dap.specs.declared.adapter.Then.TheVariants as then
 use Rattle.mix_dap.specs.declared.adapter.Way.{Way}
+use Rattle.mix_dap.specs.declared.adapter.Way.TheVariants as way
+use Rattle.dap_asked.specs.declared.deed.Deed.TheVariants as deed
 use Rattle.dap_asked.specs.declared.kind.Act.TheVariants as act
 use Rattle.dap_asked.specs.declared.kind.Kind.TheVariants as kind
 use Rattle.mix_dap.specs.declared.launch.Opening.{Opening}
@@ -42,7 +45,7 @@ use Rattle.mix_dap.proofs.EventLemmas.{refusal-alone, reply-alone, reply-then}
 
 pub write-answered : (asked : Result (List (ℕ × WordValue) × ℕ) Fault) (a : Adapter) (new : Timeline) (body : Data) (r : Request) (old between out : Outbox)
     → Written asked a.session.timeline new → Adds old between (λ seq. reply_message seq r body) → AddsEvents (invalidated a.client) between out
-    → let x = written asked a in Serves x.outcome × (new ≡ x.timeline) × (a.points ≡ x.points) × (a.fault ≡ x.fault) × (a.printed ≡ x.printed)
+    → let x = written asked a in Serves x.outcome × (new ≡ x.timeline) × (a.points ≡ with_kind x.sets a.points x.points) × (a.fault ≡ x.fault) × (a.printed ≡ x.printed)
     × (then.Wait ≡ x.later) × AddsReply r x.events old out
 write-answered (Ok asked) a new body r old between out done tells later =
     (tt, done, refl, refl, refl, refl, reply-then r (invalidated a.client) old between out (reply-alone r body old between tells) later)
@@ -80,6 +83,16 @@ asked-still : (what : Act) (asked : Result Deed Fault) (a : Adapter) (why : Faul
 asked-still what (Ok deed) a why is =
     unless-still (refusal_in (effect_of_deed deed a.session.timeline)) what (effect_of_deed deed a.session.timeline) a why is
 asked-still what (Err wrong) a why is = refl
+
+-- a step over
+over-by : (one : Bool) (steps : ℕ) (a : Adapter) (why : Fault)
+    → Denies (if one then deed_done act.Step deed.Step a else record (still a) { fault = None; later = then.Run (way.Over steps) }).outcome why
+    → IsStill (if one then deed_done act.Step deed.Step a else record (still a) { fault = None; later = then.Run (way.Over steps) }) a
+over-by true steps a why is = asked-still act.Step (Ok deed.Step) a why is
+over-by false steps a why is = absurd is
+
+over-still : (steps : ℕ) (a : Adapter) (why : Fault) → Denies (stepped_over steps a).outcome why → IsStill (stepped_over steps a) a
+over-still steps a why is = over-by (steps == 1) steps a why is
 
 -- a line of the console
 replied-still : (refusal : Option Fault) (effect : Effect) (a : Adapter) (why : Fault) → Denies (replied_unless refusal effect a).outcome why
@@ -119,6 +132,7 @@ refused-still kind.Cancel r a why is = refl
 refused-still kind.Launch r a why is = refl
 refused-still kind.Disconnect r a why is = absurd is
 refused-still kind.Write r a why is = written-still (write_asked a.session r) a why is
+refused-still kind.StepOver r a why is = over-still (steps_over (world_of a.session.timeline) most) a why is
 refused-still (kind.Act what) r a why is = acts-still (is_line what r) (text_of r (codes "expression")) what (deed_of what r a.session) a why is
 
 -- a refusal is told
@@ -191,6 +205,13 @@ on-misread (Ok how) asked why r a old new is flows tells = reacts-misread asked 
 on-misread (Err wrong) asked why r a old new is flows tells = tt
 
 -- ---- out of memory
+
+pub on-broken : {E : Type 0} (result : Result Flow E) (k : Kind) (r : Request) (a mid : Adapter) (later : Then) (old between : Outbox) (new : Timeline)
+    → Answered (reaction k r a) r mid later old between → OnErr result (RunsPartly later mid.points mid.session.timeline new) → OnErr result (Leaving k r a new)
+on-broken (Ok how) k r a mid later old between new is partly = tt
+on-broken (Err why) k r a mid later old between new is partly =
+    let x = reaction k r a in
+    inr (inr (mid.points, is.2, subst (λ l. RunsPartly l mid.points x.timeline new) is.5 (subst (λ t. RunsPartly later mid.points t new) is.1 partly)))
 
 -- ---- a run, and what it tells
 

@@ -29,6 +29,7 @@ kind-launch kind.Pause knows texts r a b is = absurd (let e = is.0 in cc)
 kind-launch kind.Restart knows texts r a b is = absurd (let e = is.0 in cc)
 kind-launch kind.Cancel knows texts r a b is = absurd (let e = is.0 in cc)
 kind-launch kind.Write knows texts r a b is = absurd (let e = is.0 in cc)
+kind-launch kind.StepOver knows texts r a b is = absurd (let e = is.0 in cc)
 kind-launch (kind.Act act) knows texts r a b is = absurd (let e = is.0 in cc)
 
 pub launch-waits : (asks : Result Kind Fault) (knows : List ℕ → Known) (texts : Texts) (r : Request) (a b : Outbox)

@@ -20,14 +20,8 @@ answer_before kind.Initialize = Some served
 answer_before kind.Terminate = Some served
 answer_before kind.Disconnect = Some served
 answer_before kind.Launch = None
-answer_before (kind.Look look) = Some (denied fault.NotLaunched)
 answer_before (kind.Given given) = Some looked
-answer_before (kind.Points target) = Some (denied fault.NotLaunched)
-answer_before kind.Pause = Some (denied fault.NotLaunched)
-answer_before kind.Restart = Some (denied fault.NotLaunched)
-answer_before kind.Cancel = Some (denied fault.NotLaunched)
-answer_before kind.Write = Some (denied fault.NotLaunched)
-answer_before (kind.Act act) = Some (denied fault.NotLaunched)
+answer_before other = Some (denied fault.NotLaunched)
 
 -- what is told after its answer
 abbrev pub events_before : Kind → List Event

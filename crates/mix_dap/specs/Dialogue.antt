@@ -1,19 +1,15 @@
 -- A dialogue of the adapter with its client.
-use Rattle.std.specs.Prelude.{◌≡◌, ◌⊎◌, ◌≤◌, ◌-◌, ◌^◌, ◌++◌, ℕ, List, [], ◌∷◌, codes, Option, Result, Ok, Err, IsErr}
+use Rattle.std.specs.Prelude.{◌≡◌, ◌⊎◌, ◌++◌, ℕ, List, [], codes, Bool, true, false, Option, Result, Ok, Err, IsErr}
 use Rattle.std.specs.Io.KnownBytes.{Appends, prepend_known}
 use Rattle.serde_json.specs.Data.{Data}
 use Rattle.dap_asked.specs.Kind.{IsAsked}
 use Rattle.dap_asked.specs.declared.fault.Fault.{Fault}
 use Rattle.dap_asked.specs.declared.kind.Kind.{Kind}
 use Rattle.rpc_message.specs.declared.request.Request.{Request}
-use Rattle.rpc_message.specs.Message.{next_seq}
-use Rattle.rpc_stream.specs.Asked.{Frame, IsRequest}
 use Rattle.rpc_frame.specs.Frame.{first_frame, partial}
-use Rattle.rpc_stream.specs.Prelude.{broken_text, SendsFront, Hears, HearsAs, Talks}
+use Rattle.rpc_stream.specs.Prelude.{broken_text, TalkedAs}
 use Rattle.rpc_stream.specs.declared.broken.Broken.{Broken}
-use Rattle.rpc_stream.specs.Serving.{unclear_told, going, over, Steps}
 use Rattle.rpc_stream.specs.declared.broken.Broken.TheVariants as broken
-use Rattle.rpc_stream.specs.declared.hear.Heard.TheVariants as heard
 use Rattle.mix_dap.specs.Answer.{HasTexts, LaunchTells}
 use Rattle.mix_dap.specs.Before.{AskedShows, IsLaunch, client_after}
 use Rattle.mix_dap.specs.Capabilities.{unknown_client}
@@ -103,77 +99,44 @@ abbrev pub BeforeSteps : Client → ℕ → Request → List Data → Stage → 
 BeforeSteps client before request told next last =
     (kind : Result Kind Fault) × IsAsked kind request × BeforeStepsAs kind client before request told next last
 
--- one exchange of a dialogue that is at such a stage
-abbrev pub StageSteps : Stage → ℕ → Frame → List Data → Stage → ℕ → Type 0
-StageSteps (waiting client) before (Err why) told next last = (told ≡ unclear_told before why) × (next ≡ waiting client) × (last ≡ next_seq before)
-StageSteps (waiting client) before (Ok message) told next last = (request : Request) × IsRequest request message × BeforeSteps client before request told next last
-StageSteps (debugs a) before frame told (waiting client) last = ⊥
-StageSteps (debugs a) before frame told (debugs b) last = Steps AdapterServes (going (a, before)) frame told (going (b, last))
-StageSteps (debugs a) before frame told done last = (b : Adapter) × Steps AdapterServes (going (a, before)) frame told (over (b, last))
-StageSteps done before frame told next last = ⊥
+-- whether the client is done, or the dialogue was broken off
+abbrev pub is_over : Stage → Bool
+is_over (waiting client) = false
+is_over (debugs a) = false
+is_over done = true
 
-abbrev pub Exchanges : Reached → Frame → List Data → Reached → Type 0
-Exchanges from frame told to = StageSteps from.0 from.1 frame told to.0 to.1
+-- a talk goes on up to where the client is done
+abbrev pub turn_at : Stage → Turn
+turn_at (waiting client) = turn.On
+turn_at (debugs a) = turn.On
+turn_at done = turn.Over
 
--- the client is done, or its input is at its end, or it had as many exchanges as are counted
-abbrev pub EndsAs : Stage → ℕ → Option (List ℕ) → Option (List ℕ) → Type 0
-EndsAs (waiting client) count left new = HearsAs (Ok heard.End) left new ⊎ ((2 ^ 64 - 1 ≤ count) × (new ≡ left))
-EndsAs (debugs a) count left new = HearsAs (Ok heard.End) left new ⊎ ((2 ^ 64 - 1 ≤ count) × (new ≡ left))
-EndsAs done count left new = new ≡ left
+-- a request is answered; one of a client that is done is not
+abbrev pub StageAnswers : Stage → ℕ → Request → List Data → Stage → ℕ → Type 0
+StageAnswers (waiting client) before request told next last = BeforeSteps client before request told next last
+StageAnswers (debugs a) before request told (waiting client) last = ⊥
+StageAnswers (debugs a) before request told (debugs b) last = AdapterServes (a, before) request told turn.On (b, last)
+StageAnswers (debugs a) before request told done last = (b : Adapter) × AdapterServes (a, before) request told turn.Over (b, last)
+StageAnswers done before request told next last = (told ≡ []) × (next ≡ done)
 
--- what is told for a frame up to where its exchange is broken off: nothing yet, or its answer
-abbrev pub ExchangeBegins : Reached → Frame → List Data → Type 0
-ExchangeBegins from frame told = (told ≡ []) ⊎ ((to : Reached) × Exchanges from frame told to)
+abbrev pub StageServes : Reached → Request → List Data → Turn → Reached → Type 0
+StageServes from request told next to = (next ≡ turn_at to.0) × StageAnswers from.0 from.1 request told to.0 to.1
 
--- A dialogue was had up to where no more can be heard: all frames that were heard are answered.
-pub record Halts (why : Broken) (from : Reached) (old new told now : Option (List ℕ)) : Type 0 where
-  pub reached : Reached
-  pub count : ℕ
-  pub left : Option (List ℕ)
-  pub talks : Talks Exchanges from reached count old left told now
-  pub breaks : HearsAs (Err why) left new
+-- where a dialogue is after a talk that came to its end there: one that was broken off is over
+abbrev pub EndsAs : Result Unit Broken → Reached → Reached → Type 0
+EndsAs (Ok ended) end to = to ≡ end
+EndsAs (Err why) end to = to.0 ≡ done
 
--- A dialogue was had up to an exchange that was broken off: all exchanges before it are whole, its frame was heard, and of what is told for it up to there a
--- beginning was sent, and nothing else was.
-pub record BreaksOff (from : Reached) (old new told now : Option (List ℕ)) : Type 0 where
-  pub reached : Reached
-  pub count : ℕ
-  pub left : Option (List ℕ)
-  pub before : Option (List ℕ)
-  pub talks : Talks Exchanges from reached count old left told before
-  pub frame : Frame
-  pub hears : Hears left (frame ∷ []) new
-  pub messages : List Data
-  pub begins : ExchangeBegins reached frame messages
-  pub sends : SendsFront messages before now
+-- A dialogue goes on from a stage with the input as it is: what serves the stages has a talk with the client. What is left of the input at its end was
+-- not read, or read and not heard. After its end nothing is heard.
+abbrev pub GoesBy : Bool → Reached → Result Unit Broken → Reached → Option (List ℕ) → Option (List ℕ) → Option (List ℕ) → Option (List ℕ) → Type 0
+GoesBy true from result to old new told now = (result ≡ Ok tt) × (to ≡ from) × (new ≡ old) × (now ≡ told)
+GoesBy false from result to old new told now =
+    (kept : List ℕ) × (end : Reached) × EndsAs result end to × (result ≡ Err broken.Read → first_frame kept ≡ partial)
+    × TalkedAs StageServes result from end old (prepend_known kept new) told now
 
--- How a dialogue was broken off. Frames that end it are told of. Where a read fails, all frames that were heard are answered; where a write fails, all but
--- the last one, and of what is told for that one a beginning is sent; where memory is refused, it is the one or the other.
-abbrev pub Breaks : Broken → Reached → Option (List ℕ) → Option (List ℕ) → Option (List ℕ) → Option (List ℕ) → Type 0
-Breaks broken.Cut from old new told now = Halts broken.Cut from old new told now
-Breaks broken.TooLong from old new told now = Halts broken.TooLong from old new told now
-Breaks broken.Read from old new told now = Halts broken.Read from old new told now
-Breaks broken.Write from old new told now = BreaksOff from old new told now
-Breaks broken.Memory from old new told now = Halts broken.Memory from old new told now ⊎ BreaksOff from old new told now
-
--- How a dialogue came to this result from a stage of it, and where it is then: one that was broken off is over.
-abbrev pub GoesAs : Reached → Result Unit Broken → Reached → Option (List ℕ) → Option (List ℕ) → Option (List ℕ) → Option (List ℕ) → Type 0
-GoesAs from (Ok ended) to old new told now =
-    (count : ℕ) × (left : Option (List ℕ)) × Talks Exchanges from to count old left told now × EndsAs to.0 count left new
-GoesAs from (Err why) to old new told now = (to.0 ≡ done) × Breaks why from old new told now
-
--- where a read failed, no frame is whole of what was read and not heard
-abbrev pub HeardAll : Result Unit Broken → List ℕ → Type 0
-HeardAll (Ok ended) kept = Unit {0}
-HeardAll (Err broken.Read) kept = first_frame kept ≡ partial
-HeardAll (Err broken.Write) kept = Unit {0}
-HeardAll (Err broken.Memory) kept = Unit {0}
-HeardAll (Err broken.Cut) kept = Unit {0}
-HeardAll (Err broken.TooLong) kept = Unit {0}
-
--- A dialogue goes on from a stage, with the input as it is, and of the input what is left at its end was not read, or read and not heard.
 abbrev pub GoesOnAs : Reached → Result Unit Broken → Reached → Option (List ℕ) → Option (List ℕ) → Option (List ℕ) → Option (List ℕ) → Type 0
-GoesOnAs from result to old new told now = (kept : List ℕ) × HeardAll result kept × GoesAs from result to old (prepend_known kept new) told now
+GoesOnAs from result to old new told now = GoesBy (is_over from.0) from result to old new told now
 
 -- A whole dialogue: it begins where a launch of a client is waited for that has said nothing.
 abbrev pub DialogueAs : Result Unit Broken → Option (List ℕ) → Option (List ℕ) → Option (List ℕ) → Option (List ℕ) → Type 0

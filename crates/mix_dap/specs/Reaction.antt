@@ -1,10 +1,11 @@
 -- What a request of a launched program does: one row for each kind of request.
-use Rattle.std.specs.Prelude.{◌^◌, ℕ, List, [], ◌∷◌, ◌++◌, codes, string_bytes, Option, None, Some, Result, Ok, Err, nat_lt, if◌then◌else◌, Bool, true, false}
+use Rattle.std.specs.Prelude.{◌^◌, ◌==◌, ℕ, List, [], ◌∷◌, ◌++◌, codes, Option, None, Some, Result, Ok, Err, nat_lt, if◌then◌else◌, Bool, true, false}
 use Rattle.mix_word.specs.Word.{WordValue}
 use Rattle.mix_word.specs.declared.register.Reg.TheVariants as reg
 use Rattle.mix_machine.specs.declared.fault.MixFault.{MixFault}
 use Rattle.mix_machine.specs.World.{register_of}
 use Rattle.mix_session.specs.Prelude.{Effect, after, effect_of, Timeline, world_of}
+use Rattle.mix_session.specs.Over.{steps_over}
 use Rattle.mix_session.specs.declared.answer.Answer.{Answer}
 use Rattle.mix_session.specs.declared.request.Request.TheVariants as ask
 use Rattle.rpc_message.specs.Request.{text_of as text_in}
@@ -19,8 +20,8 @@ use Rattle.mix_dap.specs.Events.{Event, beginning, invalidated, stopped, termina
 use Rattle.mix_dap.specs.Leaves.{refusal_in}
 use Rattle.mix_dap.specs.Output.{all_told, outputs}
 use Rattle.mix_dap.specs.Replies.{Outcome, denied, looked, served}
-use Rattle.dap_points.specs.Points.{PointsState, points_after}
-use Rattle.mix_dap.specs.Runs.{word_at}
+use Rattle.dap_points.specs.Points.{PointsState}
+use Rattle.mix_dap.specs.Runs.{most, word_at}
 use Rattle.mix_dap.specs.Stopped.{end_of, fault_at, only, why_of}
 use Rattle.dap_points.specs.Written.{with_cells, write_asked}
 use Rattle.mix_dap.specs.declared.adapter.Adapter.{Adapter}
@@ -28,10 +29,12 @@ use Rattle.mix_dap.specs.declared.adapter.Then.{Then}
 use Rattle.mix_dap.specs.declared.adapter.Then.TheVariants as then
 use Rattle.mix_dap.specs.declared.adapter.Way.TheVariants as way
 use Rattle.mix_dap.specs.declared.capabilities.Client.{Client}
+use Rattle.dap_asked.specs.declared.deed.Deed.TheVariants as deed
 use Rattle.dap_asked.specs.declared.fault.Fault.TheVariants as fault
 use Rattle.dap_asked.specs.declared.kind.Act.TheVariants as act
 use Rattle.dap_asked.specs.declared.kind.Kind.TheVariants as kind
 use Rattle.dap_asked.specs.declared.kind.Target.{Target}
+use Rattle.dap_asked.specs.declared.kind.Target.TheVariants as target
 use Rattle.mix_dap.specs.declared.launch.Opening.{Opening}
 use Rattle.mix_dap.specs.declared.launch.Opening.TheVariants as opening
 use Rattle.mix_dap.specs.declared.printed.Printed.{Printed}
@@ -40,8 +43,9 @@ use Rattle.mix_dap.specs.declared.printed.Printed.{Printed}
 pub record Reaction : Type 0 where
   -- the changes and the machine
   pub timeline : Timeline
-  -- the breakpoints
+  -- the breakpoints, but for those of the kind that it sets
   pub points : PointsState
+  pub sets : Target
   -- the fault that the last run or step has ended with, if one has
   pub fault : Option MixFault
   -- how many rows are told of the units that write them
@@ -69,6 +73,7 @@ abbrev pub stays : Beside → Timeline → Reaction
 stays b t = record {
   timeline = t;
   points = b.points;
+  sets = target.Nothing;
   fault = b.fault;
   printed = b.printed;
   outcome = served;
@@ -177,17 +182,22 @@ restarted b t = record (stays b t) {
   later = begun b.opening;
 }
 
+-- a step over of so many steps: a step, if it is one; or else the program runs on until what is called has come back
+abbrev pub stepped_over : ℕ → Adapter → Reaction
+stepped_over steps a =
+    if steps == 1 then deed_done act.Step deed.Step a else record (still a) { fault = None; later = then.Run (way.Over steps) }
+
 -- breakpoints are set, unless the program is not debugged
-abbrev pub points_set : Opening → Target → Request → Adapter → PointsState
-points_set opening.Stops target r a = points_after target a.session (string_bytes a.name) a.client.first r a.points
-points_set opening.Runs target r a = points_after target a.session (string_bytes a.name) a.client.first r a.points
-points_set opening.Free target r a = a.points
+abbrev pub kind_set : Opening → Target → Target
+kind_set opening.Stops which = which
+kind_set opening.Runs which = which
+kind_set opening.Free which = target.Nothing
 
 abbrev pub reaction : Kind → Request → Adapter → Reaction
 reaction kind.Initialize r a = still a
 reaction (kind.Look look) r a = record (still a) { outcome = looked }
 reaction (kind.Given given) r a = record (still a) { outcome = looked }
-reaction (kind.Points target) r a = record (still a) { points = points_set a.opening target r a }
+reaction (kind.Points which) r a = record (still a) { sets = kind_set a.opening which }
 reaction kind.Pause r a = record (still a) { events = stopped (only (codes "pause")) ∷ [] }
 reaction kind.Terminate r a = record (still a) { events = terminated ∷ [] }
 reaction kind.Restart r a = restarted (beside a) (after (effect_of a.session.timeline ask.BackAll))
@@ -195,6 +205,7 @@ reaction kind.Cancel r a = still a
 reaction kind.Launch r a = refuses a fault.Launched
 reaction kind.Disconnect r a = record (still a) { later = then.End }
 reaction kind.Write r a = written (write_asked a.session r) a
+reaction kind.StepOver r a = stepped_over (steps_over (world_of a.session.timeline) most) a
 reaction (kind.Act act) r a = acts act r a
 
 -- by what it is about: one of no known name, or with an argument that is not what it has to be, is always refused

@@ -10,12 +10,14 @@ use Rattle.rpc_message.specs.declared.outbox.Outbox.{Outbox}
 use Rattle.rpc_message.specs.declared.request.Request.{Request}
 use Rattle.mix_dap.specs.Console.{deed_asked}
 use Rattle.mix_dap.specs.Events.{AddsAnswer, AddsEvents}
+use Rattle.dap_asked.specs.Deed.{effect_of_deed}
+use Rattle.dap_asked.specs.declared.deed.Deed.TheVariants as deed
 use Rattle.dap_asked.specs.declared.fault.Fault.{Fault}
 use Rattle.dap_asked.specs.declared.kind.Kind.{Kind}
 use Rattle.mix_dap.specs.Leaves.{Leaves}
 use Rattle.mix_dap.specs.Ended.{end_told}
 use Rattle.mix_dap.specs.Output.{all_told, outputs}
-use Rattle.dap_points.specs.Points.{PointsState}
+use Rattle.dap_points.specs.Points.{PointsState, with_kind}
 use Rattle.mix_dap.specs.Reaction.{Reaction, reaction, reaction_to}
 use Rattle.mix_dap.specs.Replies.{AddsReply, Denies, Refusal, Serves, Fits, answer_message}
 use Rattle.mix_dap.specs.Runs.{Ran, fault_ran, why_ran}
@@ -30,7 +32,7 @@ use Rattle.dap_asked.specs.declared.kind.Kind.TheVariants as kind
 
 -- It is not refused, an adapter is left so, this comes then, and the response and the events are told.
 abbrev pub Answered : Reaction → Request → Adapter → Then → Outbox → Outbox → Type 0
-Answered x r b later old new = Serves x.outcome × (b.session.timeline ≡ x.timeline) × (b.points ≡ x.points) × (b.fault ≡ x.fault)
+Answered x r b later old new = Serves x.outcome × (b.session.timeline ≡ x.timeline) × (b.points ≡ with_kind x.sets b.points x.points) × (b.fault ≡ x.fault)
     × (b.printed ≡ x.printed) × (later ≡ x.later) × AddsReply r x.events old new
 
 -- all is as it was, but that the timeline was looked at
@@ -75,7 +77,7 @@ pub record ReactsAs (x : Reaction) (r : Request) (how : Flow) (b : Adapter) (old
   pub mid : Adapter
   pub between : Outbox
   pub timeline : mid.session.timeline ≡ x.timeline
-  pub points : mid.points ≡ x.points
+  pub points : mid.points ≡ with_kind x.sets mid.points x.points
   pub fault : mid.fault ≡ x.fault
   pub printed : mid.printed ≡ x.printed
   pub told : AddsAnswer (answer_message r body) x.events old between
@@ -90,6 +92,7 @@ Reacts asked r a how b old new = ReactsAs (reaction_to asked r a) r how b old ne
 abbrev pub Begins : Kind → Request → SessionState → Timeline → Type 0
 Begins kind.Restart r s new = Begun (effect_of s.timeline ask.BackAll) new
 Begins kind.Write r s new = WrittenSome (write_asked s r) s.timeline new
+Begins kind.StepOver r s new = Begun (effect_of_deed deed.Step s.timeline) new
 Begins (kind.Act act) r s new = Leaves {T = Fault} (deed_asked act r s) s.timeline new (Err refused.Memory)
 Begins other r s new = new ≡ s.timeline
 
@@ -101,7 +104,8 @@ RunsPartly then.End points t new = ⊥
 
 abbrev pub Leaving : Kind → Request → Adapter → Timeline → Type 0
 Leaving kind r a new = let x = reaction kind r a in
-    (new ≡ a.session.timeline) ⊎ (Begins kind r a.session new ⊎ RunsPartly x.later x.points x.timeline new)
+    (new ≡ a.session.timeline) ⊎ (Begins kind r a.session new
+    ⊎ ((points : PointsState) × (points ≡ with_kind x.sets points x.points) × RunsPartly x.later points x.timeline new))
 
 abbrev pub ReactsPartly : Result Kind Fault → Request → Adapter → Timeline → Type 0
 ReactsPartly (Err why) r a new = new ≡ a.session.timeline

@@ -1,6 +1,6 @@
 -- Runs of a client: what stops them, and what one leaves. Where a run comes to breakpoints that don't stop it, it goes on past them, in a leg
 -- of its own.
-use Rattle.std.specs.Prelude.{◌≡◌, ◌-◌, ℕ, zero, suc, List, length, Bool, true, false, Option, None, Some, if◌then◌else◌}
+use Rattle.std.specs.Prelude.{◌≡◌, ◌-◌, ◌==◌, ◌&&◌, ℕ, zero, suc, List, length, Bool, true, false, Option, None, Some, if◌then◌else◌}
 use Rattle.mix_machine.specs.declared.fault.MixFault.{MixFault}
 use Rattle.mix_machine.specs.declared.transfers.Conflict.{Conflict}
 use Rattle.mix_machine.specs.World.{WorldState}
@@ -18,6 +18,7 @@ use Rattle.mix_dap.specs.declared.adapter.Way.TheVariants as way
 -- the location that a run waits for
 abbrev pub awaited_by : Way → Option ℕ
 awaited_by (way.Forth location) = location
+awaited_by (way.Over steps) = None
 awaited_by way.Back = None
 
 -- ---- a leg of a run: with these breakpoints, from here, and at most so many changes
@@ -30,6 +31,7 @@ pub record Leg : Type 0 where
 -- steps, those that stand ahead done again; or changes taken back
 abbrev pub effect_of_leg : Way → Leg → Effect
 effect_of_leg (way.Forth location) leg = effect_of_run session.Again (stops_of leg.points location) leg.timeline leg.left
+effect_of_leg (way.Over steps) leg = effect_of_run session.Again (stops_of leg.points None) leg.timeline leg.left
 effect_of_leg way.Back leg = effect_of_run session.Back (stops_of leg.points None) leg.timeline leg.left
 
 -- how it has ended, and where
@@ -44,23 +46,15 @@ abbrev pub counted_by : End → WorldState → PointsState → PointsState
 counted_by ends.Halt w points = with_arrivals w points
 counted_by (ends.Until index) w points = with_arrivals w points
 counted_by ends.Break w points = with_arrivals w points
-counted_by ends.Arrived w points = points
-counted_by ends.Limit w points = points
-counted_by ends.Start w points = points
-counted_by (ends.Fault fault) w points = points
+counted_by other w points = points
 
 abbrev pub points_counted : Way → Leg → PointsState
 points_counted way leg = counted_by (end_of_leg way leg) (world_of (timeline_after way leg)) leg.points
 
 -- whether the run goes on past the breakpoints to which a leg has come; what has ended it otherwise, is no breakpoint
 abbrev pub passes_by : End → PointsState → Option ℕ → WorldState → Bool
-passes_by ends.Halt points location w = false
-passes_by (ends.Until index) points location w = false
 passes_by ends.Break points location w = passes points location w
-passes_by ends.Arrived points location w = false
-passes_by ends.Limit points location w = false
-passes_by ends.Start points location w = false
-passes_by (ends.Fault fault) points location w = false
+passes_by other points location w = false
 
 abbrev pub goes_past : Way → Leg → Bool
 goes_past way leg = passes_by (end_of_leg way leg) (points_counted way leg) (awaited_by way) (world_of (timeline_after way leg))
@@ -68,15 +62,7 @@ goes_past way leg = passes_by (end_of_leg way leg) (points_counted way leg) (awa
 -- the leg after it has as many changes as are left then
 abbrev pub made_in : Answer → ℕ
 made_in (answers.Ran count end) = count
-made_in answers.Nothing = 0
-made_in (answers.Traced count end) = count
-made_in (answers.Back count) = count
-made_in (answers.BackUntil count) = count
-made_in (answers.Forth count) = count
-made_in (answers.ForthUntil count) = count
-made_in answers.Done = 0
-made_in (answers.Shows topic) = 0
-made_in (answers.Refused refusal) = 0
+made_in other = 0
 
 abbrev pub next_leg : Way → Leg → Leg
 next_leg way leg =
@@ -92,14 +78,20 @@ Passes way (suc count) from leg = (goes_past way from ≡ true) × Passes way co
 abbrev pub most : ℕ
 most = 1000000
 
-abbrev pub first_leg : PointsState → Timeline → Leg
-first_leg points t = record { points = points; timeline = t; left = most }
+-- a step over has its number of steps
+abbrev pub most_of : Way → ℕ
+most_of (way.Forth location) = most
+most_of (way.Over steps) = steps
+most_of way.Back = most
+
+abbrev pub first_leg : Way → PointsState → Timeline → Leg
+first_leg way points t = record { points = points; timeline = t; left = most_of way }
 
 -- It is done, and has ended so: its last leg has, after those that went on.
 pub record RunDone (way : Way) (points : PointsState) (t : Timeline) (end : End) (now : PointsState) (new : Timeline) : Type 0 where
   pub count : ℕ
   pub leg : Leg
-  pub passed : Passes way count (first_leg points t) leg
+  pub passed : Passes way count (first_leg way points t) leg
   pub last : goes_past way leg ≡ false
   pub ended : end ≡ end_of_leg way leg
   pub counted : now ≡ points_counted way leg
@@ -109,7 +101,7 @@ pub record RunDone (way : Way) (points : PointsState) (t : Timeline) (end : End)
 pub record RunBroken (way : Way) (points : PointsState) (t : Timeline) (now : PointsState) (new : Timeline) : Type 0 where
   pub count : ℕ
   pub leg : Leg
-  pub passed : Passes way count (first_leg points t) leg
+  pub passed : Passes way count (first_leg way points t) leg
   pub counted : now ≡ leg.points
   pub begun : Begun (effect_of_leg way leg) new
 
@@ -122,13 +114,8 @@ Ran way points t None now new = RunBroken way points t now new
 
 -- whether it has ended only by its number of changes
 abbrev pub is_limit : End → Bool
-is_limit ends.Halt = false
-is_limit (ends.Until index) = false
-is_limit ends.Break = false
-is_limit ends.Arrived = false
 is_limit ends.Limit = true
-is_limit ends.Start = false
-is_limit (ends.Fault fault) = false
+is_limit other = false
 
 -- the word of a breakpoint that stops a run there
 abbrev pub word_at : PointsState → Timeline → List ℕ
@@ -136,26 +123,26 @@ word_at points t = reason_at points (world_of t)
 
 -- what it has met is one of the kinds of exceptions
 abbrev pub meets_filter : PointsState → End → Bool
-meets_filter points ends.Halt = false
 meets_filter points (ends.Until index) = is_filter points index
-meets_filter points ends.Break = false
-meets_filter points ends.Arrived = false
-meets_filter points ends.Limit = false
-meets_filter points ends.Start = false
-meets_filter points (ends.Fault fault) = false
+meets_filter points other = false
 
 -- how many changes are before the one that it has ended with: that is the last one done, or the one that was taken back, which stands ahead
 abbrev pub before_last : Way → Timeline → ℕ
 before_last (way.Forth location) t = length t.changes - 1
+before_last (way.Over steps) t = length t.changes - 1
 before_last way.Back t = length t.changes
 
 -- the conflict at which it has ended, if it ended at one
 abbrev pub conflict_met : Way → PointsState → Timeline → End → Option Conflict
 conflict_met way points t end = if meets_filter points end then conflict_after t (before_last way t) else None
 
+-- whether it was long enough: a step over that was shorter has come back
+abbrev pub is_paused : Way → End → Bool
+is_paused way end = is_limit end && most_of way == most
+
 -- at a stop, or since it was long enough
 abbrev pub why_of_run : Way → PointsState → Timeline → End → Why
-why_of_run way points t end = if is_limit end then long_enough else why_with (conflict_met way points t end) (word_at points t) end
+why_of_run way points t end = if is_paused way end then long_enough else why_with (conflict_met way points t end) (word_at points t) end
 
 abbrev pub why_ran : Way → PointsState → Timeline → Option End → Why
 why_ran way points t (Some end) = why_of_run way points t end

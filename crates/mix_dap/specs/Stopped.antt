@@ -39,12 +39,8 @@ reason_of at_break (ends.Fault fault) = codes "exception"
 
 abbrev pub text_of : End → Option (List ℕ)
 text_of ends.Halt = Some (codes "HLT")
-text_of (ends.Until index) = None
-text_of ends.Break = None
-text_of ends.Arrived = None
-text_of ends.Limit = None
-text_of ends.Start = None
 text_of (ends.Fault fault) = Some (fault_line fault)
+text_of other = None
 
 abbrev pub why_of : List ℕ → End → Why
 why_of at_break end = record { reason = reason_of at_break end; text = text_of end }
@@ -64,23 +60,10 @@ long_enough = record { reason = codes "pause"; text = Some (codes "paused after 
 
 -- the fault at which a run stopped
 abbrev pub fault_at : End → Option MixFault
-fault_at ends.Halt = None
-fault_at (ends.Until index) = None
-fault_at ends.Break = None
-fault_at ends.Arrived = None
-fault_at ends.Limit = None
-fault_at ends.Start = None
 fault_at (ends.Fault fault) = Some fault
+fault_at other = None
 
 -- what ends a step, by the answer of the session to it; what is no step has come to what was asked
 abbrev pub end_of : Answer → End
 end_of (answers.Ran count end) = end
-end_of answers.Nothing = ends.Limit
-end_of (answers.Traced count end) = ends.Limit
-end_of (answers.Back count) = ends.Limit
-end_of (answers.BackUntil count) = ends.Limit
-end_of (answers.Forth count) = ends.Limit
-end_of (answers.ForthUntil count) = ends.Limit
-end_of answers.Done = ends.Limit
-end_of (answers.Shows topic) = ends.Limit
-end_of (answers.Refused refusal) = ends.Limit
+end_of other = ends.Limit

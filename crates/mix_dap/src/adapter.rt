@@ -49,6 +49,8 @@ pub enum Flow {
 pub(crate) enum Way {
     /// Forwards, also until the location is this one.
     Forth(Option<u16>),
+    /// Forwards, so many steps: until what the first one calls has come back.
+    Over(u32),
     /// Backwards.
     Back,
 }

@@ -3,8 +3,7 @@
 ghost use Rattle.std.specs.Prelude.{◌≡◌, ◌<◌, ◌-◌, ◌^◌, Err};
 ghost use Rattle.mix_stream.specs.Stream.{CountsFailure};
 ghost use Rattle.rpc_stream.specs.declared.broken.Broken.TheVariants as broken;
-ghost use Rattle.mix_dap.specs.Dialogue.{GoesOnAs, at_first};
-ghost use Rattle.mix_dap.specs.Stage.{is_over};
+ghost use Rattle.mix_dap.specs.Dialogue.{GoesOnAs, at_first, is_over};
 
 use crate::launch::Library;
 use crate::served::{Holds, Served};

@@ -4,8 +4,8 @@
 ghost use Rattle.std.specs.Prelude.{◌≡◌, [], IfNone, IfOk, IfSome, IsErr, OnOk};
 ghost use Rattle.rpc_message.specs.Message.{waits};
 ghost use Rattle.mix_dap.specs.Prelude.{LaunchTells, launched_of};
-ghost use Rattle.mix_dap.specs.Dialogue.{BeginsAs, debugs, waiting};
-ghost use Rattle.mix_dap.specs.Stage.{StageServes, stage_of};
+ghost use Rattle.mix_dap.specs.Dialogue.{BeginsAs, StageServes, debugs, waiting};
+ghost use Rattle.mix_dap.specs.Stage.{stage_of};
 
 use crate::adapter::{Adapter, Flow};
 use crate::launch::{Library, Texts};
@@ -15,6 +15,7 @@ use mix_refused::Memory;
 use rpc_message::{Outbox, Request};
 use rpc_stream::{Serves, Turn};
 use std::alloc::Global;
+use std::marker::Model;
 use std::mem::replace;
 
 /// What a dialogue holds.
@@ -32,7 +33,7 @@ pub(crate) enum Holds {
 pub(crate) struct Served<'l, L: Library> {
     alloc: Global,
     library: &'l L,
-    pub(crate) holds: Holds,
+    holds: Holds,
 }
 
 impl<L: Library> Drop for Served<'_, L> {
@@ -45,9 +46,18 @@ impl<L: Library> Drop for Served<'_, L> {
     }
 }
 
+impl<'l, L: Library> Model for Served<'l, L> {
+    ghost use Rattle.mix_dap.specs.Dialogue.{Stage};
+    ghost use Rattle.mix_dap.specs.Stage.{stage_of};
+
+    ghost Value = { Stage };
+
+    ghost view = { λ s. stage_of s.holds };
+}
+
 impl<'l, L: Library> Served<'l, L> {
     pub(crate) fn of(alloc: Global, library: &'l L, holds: Holds) -> Served<'l, L>
-        ensures { result.holds ≡ holds }
+        ensures { result ≡ stage_of holds }
     {
         Served {
             alloc,
@@ -57,7 +67,7 @@ impl<'l, L: Library> Served<'l, L> {
     }
 
     pub(crate) fn into_holds(self) -> Holds
-        ensures { result ≡ self.entry.holds }
+        ensures { stage_of result ≡ self.entry }
     {
         let Served {
             alloc: _,
@@ -69,7 +79,7 @@ impl<'l, L: Library> Served<'l, L> {
 }
 
 impl<L: Library> Serves for Served<'_, L> {
-    ghost serves = { λ s request told next t. StageServes (stage_of s.0.holds, s.1) request told next (stage_of t.0.holds, t.1) };
+    ghost serves = { StageServes };
 
     fn serve(&mut self, request: &Request, outbox: &mut Outbox) -> Result<Turn, Memory> {
         match replace(&mut self.holds, Holds::Nothing) {

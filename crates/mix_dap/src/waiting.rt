@@ -88,6 +88,7 @@ impl Waiting {
             | Kind::Restart
             | Kind::Cancel
             | Kind::Write
+            | Kind::StepOver
             | Kind::Act(_) => {
                 refuse(self.alloc, request, Fault::NotLaunched, out)?;
                 Ok(Asked::Answered)

@@ -2,7 +2,7 @@
 ghost use Rattle.std.specs.Prelude.{◌≡◌, ◌<ℤ◌, ℕ, ℤ, pos, FitsSigned};
 ghost use Rattle.std.specs.Int.{w64};
 ghost use Rattle.std.specs.Option.{SomeIff};
-ghost use Rattle.mix_formula.specs.Arithmetic.{floor_by, negated, outcome, quotient, reckoned, within};
+ghost use Rattle.mix_formula.specs.Arithmetic.{floor_by, negated, outcome, quotient, within};
 
 /// What a formula, or a part of it, comes to.
 #[derive(Clone, Copy)]
@@ -30,7 +30,12 @@ pub(crate) fn outcome(operator: Operator, a: Reckoned, b: Reckoned) -> Reckoned
     ensures { result ≡ outcome operator a b }
 {
     match (a, b) {
-        (Reckoned::Known(a), Reckoned::Known(b)) => outcome_of(operator, a, b),
+        (Reckoned::Known(a), Reckoned::Known(b)) => match operator {
+            Operator::Add => known(a.checked_add(b)),
+            Operator::Subtract => known(a.checked_sub(b)),
+            Operator::Multiply => known(a.checked_mul(b)),
+            Operator::Divide => quotient(a, b),
+        },
         (Reckoned::Unknown, _) => Reckoned::Unknown,
         (_, Reckoned::Unknown) => Reckoned::Unknown,
         (_, _) => Reckoned::TooLarge,
@@ -42,17 +47,6 @@ pub(crate) fn negated(a: Reckoned) -> Reckoned
     ensures { result ≡ negated a }
 {
     outcome(Operator::Subtract, Reckoned::Known(0), a)
-}
-
-fn outcome_of(operator: Operator, a: i64, b: i64) -> Reckoned
-    ensures { result ≡ reckoned operator a b }
-{
-    match operator {
-        Operator::Add => known(a.checked_add(b)),
-        Operator::Subtract => known(a.checked_sub(b)),
-        Operator::Multiply => known(a.checked_mul(b)),
-        Operator::Divide => quotient(a, b),
-    }
 }
 
 // A number that fits, if there is one.

@@ -1,7 +1,7 @@
 //! Sums of products of numbers, names and sums in brackets.
 ghost use Rattle.std.specs.Prelude.{◌≡◌, Err, MatchOption, MatchResult, None, Ok, Some};
-ghost use Rattle.mix_formula.specs.Formula.{closed, name_value_of, number_value, part_by, plain_part, product_by, product_operator, signed_part, sum_at, sum_operator, word_at};
-ghost use Rattle.mix_formula.specs.Prelude.{after_word, word_in, names_of, value_in};
+ghost use Rattle.mix_formula.specs.Formula.{closed, name_value_of, number_value, plain_part, product_by, product_operator, signed_part, sum_at, sum_operator, word_at};
+ghost use Rattle.mix_formula.specs.Prelude.{names_of, value_in};
 ghost use Rattle.mix_lines.specs.Number.{number_up_to};
 
 use crate::arithmetic::{Operator, Reckoned, negated, outcome};
@@ -89,43 +89,29 @@ fn signed_part<'a>(scope: &Scope, depth: u8, text: &'a [u8]) -> Result<(Reckoned
 
 // A part without a sign.
 #[cycle(formula)]
-#[tactic(auto, unfolding(crate::specs::Formula::plain_part))]
+#[tactic(auto, unfolding(crate::specs::Formula::plain_part, crate::specs::Formula::closed, crate::specs::Formula::word_at))]
 fn plain_part<'a>(scope: &Scope, depth: u8, text: &'a [u8]) -> Result<(Reckoned, &'a [u8]), usize>
     ensures { MatchResult result (λ r. plain_part (names_of scope.now) (sum_at (names_of scope.now) depth) text.now ≡ Ok (r.0, r.1.now)) (λ left. plain_part (names_of scope.now) (sum_at (names_of scope.now) depth) text.now ≡ Err left) }
 {
     match text {
         [b'(', rest @ ..] => match sum(scope, depth, rest) {
             Err(left) => Err(left),
-            Ok((value, rest)) => closed(value, unblanked(rest)),
+            Ok((value, rest)) => match unblanked(rest) {
+                [b')', rest @ ..] => Ok((value, rest)),
+                rest => Err(rest.len()),
+            },
         },
-        [_, ..] => word_at(scope, text),
+        [_, ..] => {
+            let (word, rest) = split_word(text);
+            if all_digits(word) {
+                Ok((number(word), rest))
+            } else if is_name(word) {
+                Ok((name(scope, word), rest))
+            } else {
+                Err(text.len())
+            }
+        }
         [] => Err(0),
-    }
-}
-
-// The bracket that closes.
-#[tactic(auto, unfolding(crate::specs::Formula::closed))]
-fn closed(value: Reckoned, text: &[u8]) -> Result<(Reckoned, &[u8]), usize>
-    ensures { MatchResult result (λ r. closed value text.now ≡ Ok (r.0, r.1.now)) (λ left. closed value text.now ≡ Err left) }
-{
-    match text {
-        [b')', rest @ ..] => Ok((value, rest)),
-        _ => Err(text.len()),
-    }
-}
-
-// A number or a name.
-#[tactic(auto, unfolding(crate::specs::Formula::word_at))]
-fn word_at<'a>(scope: &Scope, text: &'a [u8]) -> Result<(Reckoned, &'a [u8]), usize>
-    ensures { MatchResult result (λ r. word_at (names_of scope.now) text.now (word_in text.now) (after_word text.now) ≡ Ok (r.0, r.1.now)) (λ left. word_at (names_of scope.now) text.now (word_in text.now) (after_word text.now) ≡ Err left) }
-{
-    let (word, rest) = split_word(text);
-    if all_digits(word) {
-        Ok((number(word), rest))
-    } else if is_name(word) {
-        Ok((name(scope, word), rest))
-    } else {
-        Err(text.len())
     }
 }
 

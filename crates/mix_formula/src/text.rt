@@ -1,6 +1,6 @@
 //! The parts of a text: its blanks, its words, what is in square brackets.
-ghost use Rattle.std.specs.Prelude.{◌≡◌, ◌≤◌, ℕ, Bool, IfSome, MatchOption, None, Some, length, option_map, position};
-ghost use Rattle.std.specs.List.{before_first, position_or_len};
+ghost use Rattle.std.specs.Prelude.{◌≡◌, ◌≤◌, MatchOption, None, Some, length, position};
+ghost use Rattle.std.specs.List.{position_or_len};
 ghost use Rattle.mix_formula.specs.Text.{after_opening, after_word, bracket_of, is_closing, is_name, is_opening, is_other, unblanked, word_in};
 
 use mix_lines::{is_blank, is_comment};

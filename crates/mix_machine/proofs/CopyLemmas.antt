@@ -71,7 +71,7 @@ copied-past n from to cells into past =
     ∙ get_or-take to cells (from + j) zero_word (omega (arith, past, below))))
 
 -- the state after them is that of the writes
-copied-state : (n from to : ℕ) (w : WorldState) → write_all w (copies n from to w) ≡ record w { cells = with_copies n from to w.cells }
+pub copied-state : (n from to : ℕ) (w : WorldState) → write_all w (copies n from to w) ≡ record w { cells = with_copies n from to w.cells }
 copied-state zero from to w = refl
 copied-state (suc n) from to w = copied-state n (from + 1) (to + 1) (written w (set (Cell to (cell_of w from))))
 
@@ -109,6 +109,16 @@ copy-room n from to m at w cells values ks h e is =
     let len = ap length is ∙ length-cell_values to (take (at + m - at) (drop at cells)) in
     omega (arith, count, few, len, e, h)
 
+-- the state after words are copied
+pub copy-stands : (n from to m out at : ℕ) (w v u : WorldState) (cells copied : List WordValue) → m ≡ n → out ≡ from → at ≡ to → v ≡ w → cells ≡ v.cells →
+    copied ≡ with_copies m out at cells → u ≡ record v { cells = copied } → u ≡ write_all w (copies n from to w)
+copy-stands n from to m out at w v u cells copied em eo ea ev ec done after =
+    let old : cells ≡ w.cells = ec ∙ ap (λ (s : WorldState). s.cells) ev in
+    let cells_after : copied ≡ with_copies n from to w.cells =
+    done ∙ ap (λ k. with_copies k out at cells) em ∙ ap (λ p. with_copies n p at cells) eo ∙ ap (λ p. with_copies n from p cells) ea
+    ∙ ap (with_copies n from to) old in
+    after ∙ same-cells v w copied (with_copies n from to w.cells) ev cells_after ∙ sym (copied-state n from to w)
+
 -- the words copied, those that they replace kept together
 pub copy-wrote : (n from to m out at : ℕ) (w v u : WorldState) (cells copied : List WordValue) (values : List Old) (ks ls : KeptList Old) →
     to + n ≤ 4000 → IsWorld w → m ≡ n → out ≡ from → at ≡ to → v ≡ w → cells ≡ v.cells →
@@ -126,11 +136,8 @@ copy-wrote n from to m out at w v u cells copied values ks ls within h em eo ea 
     let few : length values ≡ n =
     ap length kept ∙ length-cell_values to (take n (drop to w.cells))
     ∙ length-take-le n (drop to w.cells) (omega (arith, there, length-drop to w.cells)) in
-    let cells_after : copied ≡ with_copies n from to w.cells =
-    done ∙ ap (λ k. with_copies k out at cells) em ∙ ap (λ p. with_copies n p at cells) eo ∙ ap (λ p. with_copies n from p cells) ea
-    ∙ ap (with_copies n from to) old in
     record {
-      state = after ∙ same-cells v w copied (with_copies n from to w.cells) ev cells_after ∙ sym (copied-state n from to w);
+      state = copy-stands n from to m out at w v u cells copied em eo ea ev ec done after;
       kept = items ∙ ap (λ (os : List Old). ks.items ++ os) (kept ∙ sym (copied-kept n from to w there));
       room = omega (arith, count, room, few);
     }

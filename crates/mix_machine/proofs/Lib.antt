@@ -9,6 +9,7 @@ pub mod CopyLemmas
 pub mod Counting
 pub mod DeckLemmas
 pub mod EachLemmas
+pub mod EndingLemmas
 pub mod Halting
 pub mod MarkLemmas
 pub mod PackLemmas

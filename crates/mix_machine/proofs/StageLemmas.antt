@@ -1,10 +1,10 @@
 -- The tests of a step made in groups find the same fault as the one order does.
-use Rattle.std.proofs.Common.{◌≡◌, ◌∙◌, Bool, true, false, cond, List, [], ◌∷◌, ◌++◌, Some, None, Ok, Err, refl}
+use Rattle.std.proofs.Common.{◌≡◌, ◌==◌, ◌∙◌, Bool, true, false, cond, List, [], ◌∷◌, ◌++◌, Some, None, Ok, Err, refl}
 use Rattle.mix_word.specs.declared.decoding.Decoded.{Decoded}
 use Rattle.mix_word.specs.declared.decoding.Decoded.TheVariants.{Named, Floating, Unknown}
-use Rattle.mix_machine.specs.Prelude.{WorldState, applies, first_fault, order, Arguments, MixFault}
+use Rattle.mix_machine.specs.Prelude.{WorldState, applies, first_fault, order, step_or_fault, Arguments, MixFault}
 use Rattle.mix_machine.specs.law.Stages.{of_instruction, of_address, of_operation, fault_among}
-use Rattle.mix_machine.specs.declared.fault.MixFault.TheVariants.{NoCellAtLocation, ClockFull}
+use Rattle.mix_machine.specs.declared.fault.MixFault.TheVariants.{NoOperation, FloatingOperation, NoCellAtLocation, ClockFull}
 
 among-some : {X : Type 0} (test : MixFault → Bool) (fs gs : List MixFault) (x : X) (f : MixFault) → fault_among test fs ≡ Some f →
     first_fault test (fs ++ gs) x ≡ Err f
@@ -72,3 +72,10 @@ pub fault-of-address : {X : Type 0} (d : Decoded) (w : WorldState) (a : Argument
 fault-of-address (Named op) w a x f h s = fault-of-instruction (applies (Named op) w a) x f h s
 fault-of-address Floating w a x f h s = absurd (cc)
 fault-of-address Unknown w a x f h s = absurd (cc)
+
+-- what is no operation is refused
+pub fault-of-floating : (d : Decoded) (w : WorldState) (a : Arguments) → d ≡ Floating → (w.loc == 4000) ≡ false → step_or_fault d w a ≡ Err FloatingOperation
+fault-of-floating d w a is there = rw (is, there) refl
+
+pub fault-of-unknown : (d : Decoded) (w : WorldState) (a : Arguments) → d ≡ Unknown → (w.loc == 4000) ≡ false → step_or_fault d w a ≡ Err NoOperation
+fault-of-unknown d w a is there = rw (is, there) refl

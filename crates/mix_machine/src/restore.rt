@@ -63,8 +63,9 @@ impl World {
         if most < 2 {
             return self.restore_fewer(header, units, anchor, most);
         }
-        *anchor = before_moment(header / 16, *anchor);
-        self.go_to(anchor.loc, anchor.clock);
+        let to = before_moment(header / 16, *anchor);
+        self.go_to(to.loc, to.clock);
+        anchor.set(to);
         2
     }
 
@@ -89,8 +90,9 @@ impl World {
         if !takes_three(payload % 2, most) {
             return self.restore_fewer(header, units, anchor, most);
         }
-        *anchor = before_jump(payload, *anchor);
-        self.go_to(anchor.loc, anchor.clock);
+        let to = before_jump(payload, *anchor);
+        self.go_to(to.loc, to.clock);
+        anchor.set(to);
         self.set_value(Old::Reg(Reg::J, short(wide_bits(4096, payload / 8192))));
         3
     }
@@ -117,8 +119,9 @@ impl World {
             return self.restore_fewer(header, units, anchor, most);
         }
         let reg = short_register(payload);
-        *anchor = before_short(payload, *anchor);
-        self.go_to(anchor.loc, anchor.clock);
+        let to = before_short(payload, *anchor);
+        self.go_to(to.loc, to.clock);
+        anchor.set(to);
         let word = short(wide_bits(0x40_0000, payload / 32));
         self.set_value(Old::Reg(reg, word));
         3

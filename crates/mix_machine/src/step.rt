@@ -1,9 +1,10 @@
 //! A step: the tests of its instruction, and what its operation does (1.3.1, "MIX operators").
 ghost use Rattle.std.specs.Prelude.{◌≡◌, ◌<◌, ◌&&◌, nat_le, nat_lt};
 ghost use Rattle.mix_word.specs.Prelude.{decode_of, parts_of};
-ghost use Rattle.mix_machine.specs.Prelude.{arguments_of, step_or_fault, answer_of, applies, of_address, fault_among, Carried};
+ghost use Rattle.mix_machine.specs.Prelude.{arguments_of, step_or_fault, answer_of, applies, of_address, fault_among};
 
 mod arithmetic;
+mod ending;
 mod finish;
 mod jump;
 mod many;
@@ -18,18 +19,18 @@ mod unit;
 
 use crate::decode::Arguments;
 use crate::fault::MixFault;
-use crate::old::Old;
+use crate::step::ending::Ending;
 use crate::step::told::told;
 use crate::world::World;
 use mix_word::{Decoded, Word, decode};
-use undo_core::{Kept, Refused};
+use undo_core::Refused;
 
 impl World {
-    /// A step of the instruction in a word, at a cell. It is called in one place, where it is inlined with the operations that programs do most.
+    /// A step of the instruction in a word, at a cell. Each loop of steps calls it once, where it is inlined with the operations that programs do most.
     #[inline(always)]
-    fn step_of_word(&mut self, word: Word, kept: &mut Kept<Old>) -> u8
+    fn step_of_word<E: Ending>(&mut self, word: Word, end: &mut E) -> u8
         requires cell { self.old.loc < 4000 }
-        ensures { Carried (step_or_fault (decode_of (parts_of word).code (parts_of word).f) self.old (arguments_of self.old (parts_of word))) self.old self.new kept.old.items kept.new.items (answer_of result) }
+        ensures { E.ended (step_or_fault (decode_of (parts_of word).code (parts_of word).f) self.old (arguments_of self.old (parts_of word))) self.old self.new end.old end.new (answer_of result) }
     {
         let parts = word.parts();
         let arguments = self.arguments(parts);
@@ -37,7 +38,7 @@ impl World {
         let given = arguments;
         match self.fault_of_address(word, given) {
             Some(fault) => told(Err(Refused::Fault(fault))),
-            None => { self.step_of_number(word.pair_number(), parts.code, word, arguments, kept) }
+            None => { self.step_of_number(word.pair_number(), parts.code, word, arguments, end) }
         }
     }
 

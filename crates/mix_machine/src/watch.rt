@@ -18,24 +18,32 @@ pub struct Seen {
 
 // Whether the mark of a part is another at a machine than was seen.
 #[inline(always)]
-fn is_other(part: Part, seen: Mark, world: &World) -> bool
-    ensures { result ≡ is_other (Some (record { part = part; mark = seen })) world.now }
+fn is_other(seen: &Seen, world: &World) -> bool
+    ensures { result ≡ is_other (Some seen.now) world.now }
 {
-    match part {
-        Part::Cell(place) => is_other_word(seen, world.cell(place)),
-        Part::Register(r) => is_other_word(seen, world.register(r)),
+    match seen.part {
+        Part::Cell(place) => is_other_word(&seen.mark, world.cell(place)),
+        Part::Register(r) => is_other_word(&seen.mark, world.register(r)),
         Part::Over | Part::Cmp | Part::Unit(_) | Part::Loc | Part::Clock => {
-            !seen.is_same(world.mark(part))
+            is_other_apart(seen, world)
         }
     }
 }
 
+// The same of any part. (Apart, so that a step reads no more of a mark than a cell's or a register's.)
+#[inline(never)]
+fn is_other_apart(seen: &Seen, world: &World) -> bool
+    ensures { result ≡ is_other (Some seen.now) world.now }
+{
+    !seen.mark.is_same(world.mark(seen.part))
+}
+
 // (a cell and a register are looked at as the words that they are, which is quicker)
 #[inline(always)]
-fn is_other_word(mark: Mark, word: Word) -> bool
-    ensures { result ≡ not (is_same_mark mark (Mark.Word word)) }
+fn is_other_word(mark: &Mark, word: Word) -> bool
+    ensures { result ≡ not (is_same_mark mark.now (Mark.Word word)) }
 {
-    match mark {
+    match *mark {
         Mark::Word(seen) => !seen.is_same(word),
         Mark::Toggle(_) | Mark::Indicator(_) | Mark::Location(_) | Mark::Time(_) => true,
     }
@@ -126,8 +134,8 @@ impl Watch {
             }
             None => {}
         }
-        match self.seen {
-            Some(Seen { part, mark }) => is_other(part, mark, world),
+        match &self.seen {
+            Some(seen) => is_other(seen, world),
             None => false,
         }
     }

@@ -37,3 +37,8 @@ module _ {V : Type 0} (bytes : V → List ℕ) (n : ℕ) where
   pub reloaded-unread : (held : Result (List ℕ) Reason) (result : Result V (Refused Unread)) (why : Unread) (m : Moment)
       → result ≡ Err (refused.Fault why) → GivesText bytes held n result → m ≡ reloaded held m
   reloaded-unread held result why m is given = unread-same held why m (subst (GivesText bytes held n) is given)
+
+-- what holds anyway holds where all went well
+pub on-ok : {A E P : Type 0} (result : Result A E) → P → OnOk result P
+on-ok (Ok done) p = p
+on-ok (Err fault) p = tt

@@ -5,8 +5,9 @@ use Rattle.mix_session.specs.declared.reply.Told.{Told}
 use Rattle.mix_session.specs.declared.reply.Told.TheVariants.{Accepted}
 use Rattle.mix_session.specs.Reply.{told_of_both}
 use Rattle.mix_stream.specs.Stream.{AppendsFront}
-use Rattle.mix_run.specs.Prelude.{Answered, Files, Saved, noted, Talker, Moment}
-use Rattle.mix_run.specs.Stretch.{Stretch, joined, silent, talk_of, typed_line}
+use Rattle.mix_lines.specs.Lines.{lines, lines-nil}
+use Rattle.mix_run.specs.Prelude.{Answered, Saved, noted, Moment}
+use Rattle.mix_run.specs.Stretch.{Stretch, each_line, joined, silent}
 use Rattle.mix_run.proofs.RunLemmas.{both-accepted, both-assoc}
 use Rattle.mix_run.proofs.TalkLemmas.{noted-then}
 use Rattle.mix_run.proofs.Written.{Appends-nothing, Appends-then, AppendsFront-after}
@@ -62,18 +63,13 @@ three a b next = go a.over refl b.over refl
         ap (joined a) (joined-still b (next b.moment) on) ∙ joined-still a (both b (next b.moment)) still ∙ both-assoc-of a b (next b.moment)
         ∙ sym (joined-still (both a b) (next b.moment) on) ∙ ap (λ s. joined s (next s.moment)) (sym (joined-still a b still))
 
--- some typed lines, and then more
-pub talk-append : (all : Files) (m : Moment) (talker : Talker) (xs ys : List (List ℕ))
-    → talk_of all m talker (xs ++ ys) ≡ joined (talk_of all m talker xs) (talk_of all (talk_of all m talker xs).moment talker ys)
-talk-append all m talker [] ys = refl
-talk-append all m talker (line ∷ xs) ys =
-    let first = typed_line all m talker line in
-    ap (joined first) (talk-append all first.moment talker xs ys)
-    ∙ three first (talk_of all first.moment talker xs) (λ now. talk_of all now talker ys)
-
--- one alone
-pub talk-one : (all : Files) (m : Moment) (talker : Talker) (line : List ℕ) → talk_of all m talker (line ∷ []) ≡ typed_line all m talker line
-talk-one all m talker line = joined-end (typed_line all m talker line)
+-- some lines, and then more
+pub each-append : (one : Moment → List ℕ → Stretch) (m : Moment) (xs ys : List (List ℕ))
+    → each_line one m (xs ++ ys) ≡ joined (each_line one m xs) (each_line one (each_line one m xs).moment ys)
+each-append one m [] ys = refl
+each-append one m (line ∷ xs) ys =
+    let first = one m line in
+    ap (joined first) (each-append one first.moment xs ys) ∙ three first (each_line one first.moment xs) (λ now. each_line one now ys)
 
 -- ---- stretches that were answered
 
@@ -119,8 +115,46 @@ Answered-begun {a} b c x y z h begun =
     AppendsFront-after x y z a.bytes b.bytes front.0 _ h.written begun
     (ap (λ s. s.bytes) (joined-still a (joined b c) (sym h.over)) ∙ ap (λ l. a.bytes ++ l) front.1)
 
--- some lines, and the next one, or the next ones, at the moment to which they led
-pub then-more : (all : Files) (m : Moment) {mid : Moment} (talker : Talker) {told : Told} {ends : Bool} {d e : Option (List Saved)} {x y : Option (List ℕ)}
-    (xs ys : List (List ℕ)) → Answered (talk_of all m talker xs) mid told ends d e x y → joined (talk_of all m talker xs) (talk_of all mid talker ys) ≡ talk_of all m talker (xs ++ ys)
-then-more all m {mid} talker xs ys h =
-    ap (λ now. joined (talk_of all m talker xs) (talk_of all now talker ys)) h.moment ∙ sym (talk-append all m talker xs ys)
+-- some lines, and the next ones at the moment to which they led
+pub then-more : (one : Moment → List ℕ → Stretch) (m : Moment) {mid : Moment} {told : Told} {ends : Bool} {d e : Option (List Saved)} {x y : Option (List ℕ)}
+    (xs ys : List (List ℕ)) → Answered (each_line one m xs) mid told ends d e x y → joined (each_line one m xs) (each_line one mid ys) ≡ each_line one m (xs ++ ys)
+then-more one m {mid} xs ys h =
+    ap (λ now. joined (each_line one m xs) (each_line one now ys)) h.moment ∙ sym (each-append one m xs ys)
+
+-- ---- one line more
+
+module _ (one : Moment → List ℕ → Stretch) {d e : Option (List Saved)} (m mid : Moment) (front : List (List ℕ)) (told : Told) (a b : Option (List ℕ))
+    (h : Answered (each_line one m front) mid told false d e a b) (line : List ℕ) where
+  pub line-then : {f : Option (List Saved)} (now : Moment) (more said : Told) (ends on : Bool) (c : Option (List ℕ))
+      → said ≡ told_of_both told more → ends ≡ on → Answered (one mid line) now more ends e f b c
+      → Answered (each_line one m (front ++ line ∷ [])) now said on d f a c
+  line-then now more said ends on c is goes k =
+      Answered-as (told_of_both told more) said ends on (then-more one m front (line ∷ []) h) is goes
+      (Answered-then told more ends h (Answered-as more more ends ends (sym (joined-end (one mid line))) refl refl k))
+
+  module _ (whole after : List (List ℕ)) (cut : whole ≡ front ++ (line ∷ after)) where
+    cut-after : whole ≡ (front ++ line ∷ []) ++ after
+    cut-after = cut ∙ sym (append_assoc front (line ∷ []) after)
+
+    -- it ends the talk
+    pub line-over : {f : Option (List Saved)} (now : Moment) (more said : Told) (ends : Bool) (c : Option (List ℕ))
+        → said ≡ told_of_both told more → ends ≡ true → Answered (one mid line) now more ends e f b c → Answered (each_line one m whole) now said true d f a c
+    line-over now more said ends c is over k =
+        let to_here = line-then now more said ends true c is over k in
+        Answered-as said said true true (then-more one m (front ++ line ∷ []) after to_here ∙ ap (each_line one m) (sym cut-after)) refl refl
+        (Answered-over (each_line one now after) said true refl to_here)
+
+    -- its answer is begun
+    pub line-begun : (c : Option (List ℕ)) → AppendsFront b c (one mid line).bytes → AppendsFront a c (each_line one m whole).bytes
+    line-begun c begun =
+        let first = one mid line in
+        subst (λ s. AppendsFront a c s.bytes) (then-more one m front (line ∷ after) h ∙ ap (each_line one m) (sym cut))
+        (Answered-begun first (each_line one first.moment after) a b c h begun)
+
+-- no line is left
+pub lines-done : (one : Moment → List ℕ → Stretch) {d e : Option (List Saved)} (m now : Moment) (front whole : List (List ℕ)) (told : Told)
+    (a b : Option (List ℕ)) (rest : List ℕ) → whole ≡ front ++ lines rest → rest ≡ [] → Answered (each_line one m front) now told false d e a b
+    → Answered (each_line one m whole) now told false d e a b
+lines-done one m now front whole told a b rest cut none h =
+    let same : whole ≡ front = cut ∙ ap (λ t. front ++ lines t) none ∙ ap (λ l. front ++ l) lines-nil ∙ append-nil front in
+    Answered-as told told false false (ap (each_line one m) (sym same)) refl refl h

@@ -1,26 +1,15 @@
 -- The lines of a talk, which come in parts: what is said of the parts holds of the whole.
-use Rattle.std.proofs.Common.{◌≡◌, ◌∙◌, ◌<◌, ◌≤◌, ◌+◌, ◌-◌, ◌||◌, ℕ, Bool, true, false, cond, List, [], ◌∷◌, ◌++◌, append_assoc, length, map, take, get_or, slice_index, Option, None, Some, refl, sym, ap, ap₂, subst, arith, true≢false, eqb}
+use Rattle.std.proofs.Common.{◌≡◌, ◌∙◌, ◌<◌, ◌≤◌, ◌+◌, ◌-◌, ◌||◌, ℕ, Bool, true, false, cond, List, [], ◌∷◌, ◌++◌, append_assoc, length, map, take, get_or, slice_index, Option, None, Some, refl, sym, ap, subst, arith, true≢false, eqb}
 use Rattle.std.proofs.KnownBytes.{Consumes-trans}
 use Rattle.std.proofs.lemmas.List.{append-nil, length-append, length-take-le, map-append, take_more}
 use Rattle.std.proofs.lemmas.List.Folds.{list_any-append}
 use Rattle.std.specs.List.{list_any, onto_first}
-use Rattle.std.specs.Io.KnownBytes.{Appends, Consumes, IsAtEnd, Keeps}
-use Rattle.mix_lines.specs.Lines.{is_line_feed, lines, lines-nil, strip_line_feed, text_of_line, whole_lines, words}
+use Rattle.std.specs.Io.KnownBytes.{Consumes, IsAtEnd, Keeps}
+use Rattle.mix_lines.specs.Lines.{is_line_feed, lines, strip_line_feed, text_of_line, whole_lines}
 use Rattle.std.specs.Str.Lines.{strip_carriage_return}
 use Rattle.std.proofs.lemmas.Bool.{lt-ltb, or_parts}
-use Rattle.mix_session.specs.Prelude.{SessionState, effect_in, after, reply_of, told_of, told_of_both}
-use Rattle.mix_session.specs.declared.reply.Told.{Told}
-use Rattle.mix_stream.specs.Stream.{AppendsFront}
-use Rattle.mix_run.specs.Prelude.{replies, is_too_long, is_whole, max_line_bytes, Talker}
+use Rattle.mix_run.specs.Prelude.{is_too_long, is_whole, max_line_bytes}
 use Rattle.mix_run.specs.Opening.{Saved, noted, noted_one}
-use Rattle.mix_run.specs.Recall.{RecallState, meant, meant_by, read_as, recalled, recalled_by}
-use Rattle.mix_run.specs.Asked.{after_lines, answers, asked, is_over, is_end, is_quit, recalled_all}
-use Rattle.mix_person.specs.Person.{kind_of}
-use Rattle.mix_person.specs.declared.person.Line.{Line}
-use Rattle.mix_person.specs.declared.person.Line.TheVariants as line_kind
-use Rattle.mix_run.specs.declared.talk.aside.Talker.TheVariants as talkers
-use Rattle.mix_run.proofs.RunLemmas.{both-accepted, both-assoc}
-use Rattle.mix_run.proofs.Written.{Appends-then, Appends-same, AppendsFront-after}
 
 -- ---- lines
 
@@ -131,153 +120,11 @@ pub whole-take : (text : List ℕ) (n : ℕ) → n < length text → get_or text
 whole-take text n within last =
     ap is_whole (take_more text n 0 within ∙ ap (λ b. take n text ++ b ∷ []) last) ∙ whole-last (take n text)
 
--- ---- replies
-
-pub bytes-append : (s : SessionState) (xs ys : List (List ℕ)) → (replies s (xs ++ ys)).bytes ≡ (replies s xs).bytes ++ (replies (after_lines s xs) ys).bytes
-bytes-append s [] ys = refl
-bytes-append s (line ∷ rest) ys =
-    let next = record s { timeline = after (effect_in s line) } in
-    let said = reply_of s.program (effect_in s line) in
-    ap (λ b. said ++ b) (bytes-append next rest ys) ∙ sym (append_assoc said (replies next rest).bytes (replies (after_lines next rest) ys).bytes)
-
-pub told-append : (s : SessionState) (xs ys : List (List ℕ)) → (replies s (xs ++ ys)).told ≡ told_of_both (replies s xs).told (replies (after_lines s xs) ys).told
-told-append s [] ys = refl
-told-append s (line ∷ rest) ys =
-    let next = record s { timeline = after (effect_in s line) } in
-    let one = told_of (effect_in s line).answer in
-    ap (told_of_both one) (told-append next rest ys) ∙ sym (both-assoc one (replies next rest).told (replies (after_lines next rest) ys).told)
-
-pub after-append : (s : SessionState) (xs ys : List (List ℕ)) → after_lines s (xs ++ ys) ≡ after_lines (after_lines s xs) ys
-after-append s [] ys = refl
-after-append s (line ∷ rest) ys = after-append (record s { timeline = after (effect_in s line) }) rest ys
-
 -- ---- what lines save
 
 pub noted-then : (so_far : Option (List Saved)) (xs ys : List Saved) → noted (noted so_far xs) ys ≡ noted so_far (xs ++ ys)
 noted-then so_far [] ys = refl
 noted-then so_far (file ∷ files) ys = noted-then (noted_one so_far file) files ys
-
--- ---- one line of a text
-
--- a line that ends the talk is of this kind
-end-kind : (kind : Line) → is_end kind ≡ true → kind ≡ line_kind.Quit
-end-kind line_kind.Quit e = refl
-end-kind line_kind.Command e = absurd (true≢false (sym e))
-end-kind line_kind.Help e = absurd (true≢false (sym e))
-end-kind line_kind.Listing e = absurd (true≢false (sym e))
-end-kind line_kind.Watch e = absurd (true≢false (sym e))
-end-kind line_kind.Delete e = absurd (true≢false (sym e))
-end-kind line_kind.Display e = absurd (true≢false (sym e))
-end-kind line_kind.Undisplay e = absurd (true≢false (sym e))
-end-kind line_kind.Save e = absurd (true≢false (sym e))
-end-kind line_kind.SaveOver e = absurd (true≢false (sym e))
-end-kind line_kind.Source e = absurd (true≢false (sym e))
-end-kind line_kind.Reload e = absurd (true≢false (sym e))
-
--- it stands for no line of a script, nor is anything recalled of it
-pub quit-said : (s : SessionState) (talker : Talker) (r : RecallState) (line : List ℕ) → is_quit talker line ≡ true → meant s talker r line ≡ []
-quit-said s talkers.Program r line e = absurd (true≢false (sym e))
-quit-said s talkers.Person r line e = ap (λ kind. meant_by s r.points kind (read_as s r line)) (end-kind (kind_of (words line)) e)
-
-pub quit-recalled : (s : SessionState) (talker : Talker) (r : RecallState) (line : List ℕ) → is_quit talker line ≡ true → recalled s talker r line ≡ r
-quit-recalled s talkers.Program r line e = refl
-quit-recalled s talkers.Person r line e = ap (λ kind. recalled_by s kind (read_as s r line) r) (end-kind (kind_of (words line)) e)
-
-module _ (s : SessionState) (talker : Talker) (r : RecallState) (line : List ℕ) (all more : List (List ℕ)) (e : all ≡ line ∷ more) where
-  abbrev said-one : List (List ℕ)
-  said-one = meant s talker r line
-
-  abbrev left-after : List (List ℕ)
-  left-after = asked (after_lines s said-one) talker (recalled s talker r line) more
-
-  asked-one : is_quit talker line ≡ false → asked s talker r all ≡ said-one ++ left-after
-  asked-one quit = ap (asked s talker r) e ∙ rw quit refl
-
-  pub over-one : is_quit talker line ≡ false → is_over talker all ≡ is_over talker more
-  over-one quit = rw (e, quit) refl
-
-  asked-end : is_quit talker line ≡ true → asked s talker r all ≡ []
-  asked-end quit = ap (asked s talker r) e ∙ rw quit refl
-
-  -- the replies to a line are a beginning of those to all
-  one-front : (rest : List ℕ) × ((answers s talker r all).bytes ≡ (replies s said-one).bytes ++ rest)
-  one-front = go (is_quit talker line) refl
-    where
-      go : (v : Bool) → is_quit talker line ≡ v → (rest : List ℕ) × ((answers s talker r all).bytes ≡ (replies s said-one).bytes ++ rest)
-      go true quit =
-          ([], ap (λ l. (replies s l).bytes) (asked-end quit) ∙ sym (ap (λ l. (replies s l).bytes ++ []) (quit-said s talker r line quit)))
-      go false quit = (
-        (replies (after_lines s said-one) left-after).bytes,
-        ap (λ l. (replies s l).bytes) (asked-one quit) ∙ bytes-append s said-one left-after,
-      )
-
-  pub begun-one : (a b c : Option (List ℕ)) (whole : List ℕ)
-      → (done : List ℕ) × Appends a b done × (whole ≡ done ++ (answers s talker r all).bytes) → AppendsFront b c (replies s said-one).bytes
-      → AppendsFront a c whole
-  begun-one a b c whole so_far reply =
-      AppendsFront-after a b c so_far.0 (replies s said-one).bytes one-front.0 whole so_far.1 reply
-      (so_far.2 ∙ ap (λ bytes. so_far.0 ++ bytes) one-front.1)
-
-  -- one line more was answered
-  module _ (next : SessionState) (later : RecallState) (quit : is_quit talker line ≡ false) (changed : next ≡ after_lines s said-one)
-      (recalls : later ≡ recalled s talker r line) where
-    asked-next : asked s talker r all ≡ said-one ++ asked next talker later more
-    asked-next = asked-one quit ∙ ap₂ (λ t u. said-one ++ asked t talker u more) (sym changed) (sym recalls)
-
-    pub written-one : (a b c : Option (List ℕ)) (whole : List ℕ) → (done : List ℕ) × Appends a b done × (whole ≡ done ++ (answers s talker r all).bytes)
-        → Appends b c (replies s said-one).bytes
-        → (done : List ℕ) × Appends a c done × (whole ≡ done ++ (answers next talker later more).bytes)
-    written-one a b c whole so_far reply =
-        let said = (replies s said-one).bytes in
-        let left : (answers s talker r all).bytes ≡ said ++ (answers next talker later more).bytes =
-        ap (λ l. (replies s l).bytes) asked-next ∙ bytes-append s said-one (asked next talker later more)
-        ∙ ap (λ t. said ++ (replies t (asked next talker later more)).bytes) (sym changed) in (
-          so_far.0 ++ said,
-          Appends-then a b c so_far.0 said so_far.1 reply,
-          so_far.2 ∙ ap (λ bytes. so_far.0 ++ bytes) left ∙ sym (append_assoc so_far.0 said (answers next talker later more).bytes),
-        )
-
-    pub told-one : (so_far one whole : Told) → told_of_both so_far (answers s talker r all).told ≡ whole → one ≡ (replies s said-one).told
-        → told_of_both (told_of_both so_far one) (answers next talker later more).told ≡ whole
-    told-one so_far one whole before here =
-        let left : (answers s talker r all).told ≡ told_of_both one (answers next talker later more).told =
-        ap (λ l. (replies s l).told) asked-next ∙ told-append s said-one (asked next talker later more)
-        ∙ ap (λ t. told_of_both (replies s said-one).told (replies t (asked next talker later more)).told) (sym changed)
-        ∙ ap (λ t. told_of_both t (answers next talker later more).told) (sym here) in
-        both-assoc so_far one (answers next talker later more).told ∙ ap (told_of_both so_far) (sym left) ∙ before
-
-    pub after-one : after_lines s (asked s talker r all) ≡ after_lines next (asked next talker later more)
-    after-one =
-        ap (after_lines s) asked-next ∙ after-append s said-one (asked next talker later more)
-        ∙ ap (λ t. after_lines t (asked next talker later more)) (sym changed)
-
-    pub recall-one : recalled_all s talker r all ≡ recalled_all next talker later more
-    recall-one =
-        ap (recalled_all s talker r) e
-        ∙ rw quit (ap₂ (λ t u. recalled_all t talker u more) (sym changed) (sym recalls))
-
--- no line is left
-module _ (s : SessionState) (talker : Talker) (r : RecallState) (rest : List ℕ) (none : rest ≡ []) where
-  nothing-left : asked s talker r (lines rest) ≡ []
-  nothing-left = rw (none, lines-nil) refl
-
-  pub all-answered : (a b : Option (List ℕ)) (whole : List ℕ) → (done : List ℕ) × Appends a b done × (whole ≡ done ++ (answers s talker r (lines rest)).bytes)
-      → Appends a b whole
-  all-answered a b whole so_far =
-      Appends-same a b so_far.0 whole
-      (sym (so_far.2 ∙ ap (λ l. so_far.0 ++ (replies s l).bytes) nothing-left ∙ append-nil so_far.0)) so_far.1
-
-  pub all-reported : (so_far whole : Told) → told_of_both so_far (answers s talker r (lines rest)).told ≡ whole → so_far ≡ whole
-  all-reported so_far whole before = sym (both-accepted so_far) ∙ ap (λ l. told_of_both so_far (replies s l).told) (sym nothing-left) ∙ before
-
-  pub all-done : after_lines s (asked s talker r (lines rest)) ≡ s
-  all-done = ap (after_lines s) nothing-left
-
-  pub all-recalled : recalled_all s talker r (lines rest) ≡ r
-  all-recalled = rw (none, lines-nil) refl
-
-  pub never-over : is_over talker (lines rest) ≡ false
-  never-over = rw (none, lines-nil) refl
 
 -- ---- some bytes more
 

@@ -1,5 +1,5 @@
 -- The names of this crate that most files cite, passed on from one place. Declares nothing.
-pub use Rattle.mix_run.specs.Asked.{after_lines, answers, asked, is_over, is_quit, recalled_all}
+pub use Rattle.mix_run.specs.Asked.{after_lines, is_quit}
 pub use Rattle.mix_run.specs.Bundle.{origin_of}
 pub use Rattle.mix_run.specs.Check.{Checks, Named, Reported}
 pub use Rattle.mix_run.specs.Counted.{end_table_asked}

@@ -1,5 +1,5 @@
 -- What a person saves: under the name that a typed line gives, the bundle of what was done so far.
-use Rattle.std.specs.Prelude.{ℕ, Bool, true, false, List, [], ◌∷◌, Option, None, Some, nat_lt, length, if◌then◌else◌}
+use Rattle.std.specs.Prelude.{ℕ, Bool, List, [], ◌∷◌, Option, None, Some, nat_lt, length, if◌then◌else◌}
 use Rattle.std.specs.Str.{bytes_eq}
 use Rattle.mix_lines.specs.Lines.{words}
 use Rattle.mix_run.specs.Bundle.{OriginValue, bundle_of}
@@ -10,18 +10,6 @@ use Rattle.mix_run.specs.declared.replaces.Replaces.TheVariants as replaces
 use Rattle.mix_person.specs.Person.{kind_of, name_in}
 use Rattle.mix_person.specs.declared.person.Line.{Line}
 use Rattle.mix_person.specs.declared.person.Line.TheVariants as line_kind
-use Rattle.mix_run.specs.declared.talk.aside.Talker.{Talker}
-use Rattle.mix_run.specs.declared.talk.aside.Talker.TheVariants.{Program, Person}
-
--- whether a line of this kind saves
-abbrev pub saves_by : Line → Bool
-saves_by line_kind.Save = true
-saves_by line_kind.SaveOver = true
-saves_by other = false
-
-abbrev pub is_save : Talker → List ℕ → Bool
-is_save Program line = false
-is_save Person line = saves_by (kind_of (words line))
 
 -- what a file of this name may hold to be replaced: `save!` replaces anything; the file that the session was begun with, a bundle; any other, what was
 -- saved before

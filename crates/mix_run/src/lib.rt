@@ -40,4 +40,4 @@ pub use run::{DebugOptions, run_debug};
 pub use statuses::{DONE, NOT_DONE, SOURCE_REFUSED};
 pub use table::TableFormat;
 pub use talk::{Streams, TalkTexts, Talker, run_talk};
-pub use units::{units_of, with_cards, with_typewriter};
+pub use units::{given_units, units_of, with_cards, with_typewriter};

@@ -47,7 +47,7 @@ pub(crate) fn open_and_execute<W: Out>(
     if script.len() > MAX_SCRIPT_BYTES {
         return Err(ToolFault::Long);
     }
-    let told = execute_lines(&mut session, script, echo, out)?;
+    let told = execute_lines(alloc, &mut session, script, echo, out)?;
     Ok(status(told))
 }
 

@@ -14,7 +14,6 @@ ghost use Rattle.mix_stream.specs.Stream.{ConsumesAtMost, CountsFailure};
 mod answer;
 mod aside;
 mod asked;
-mod done;
 mod file;
 mod finish;
 mod heard;

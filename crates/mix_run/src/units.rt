@@ -84,7 +84,7 @@ pub(crate) fn given_deck<D: In>(
 }
 
 /// The units of a deck that is read if it is given, and otherwise of a text.
-pub(crate) fn given_units<D: In>(
+pub fn given_units<D: In>(
     alloc: Global,
     own: &[u8],
     deck: &mut D,

@@ -10,6 +10,7 @@ mod KnownLemmas
 mod MarkLemmas
 mod MoveLemmas
 mod NamedLemmas
+mod OverLemmas
 mod PassagesLemmas
 mod PathLemmas
 mod PlacesLemmas

@@ -9,36 +9,22 @@ use Rattle.mix_session.specs.declared.fault.Refusal.{Refusal}
 use Rattle.mix_session.specs.declared.reply.End.{End}
 use Rattle.mix_session.specs.declared.answer.Answer.{Answer}
 use Rattle.mix_session.specs.declared.answer.Answer.TheVariants.{Nothing, Ran, Traced, Back, BackUntil, Forth, ForthUntil, Done, Shows, Refused}
-use Rattle.mix_session.specs.declared.reply.End.TheVariants.{Halt, Until, Break, Arrived, Limit, Start, Fault}
+use Rattle.mix_session.specs.declared.reply.End.TheVariants.{Until}
 use Rattle.mix_session.specs.Change.{change_line_at, last_lines}
 use Rattle.mix_session.specs.declared.reply.Told.{Told}
 use Rattle.mix_session.specs.declared.reply.Told.TheVariants as told
 
 -- a refusal is refused, and so are steps that a fault ends
 abbrev pub told_of : Answer → Told
-told_of Nothing = told.Accepted
 told_of (Ran done end) = told_of_end end
 told_of (Traced done end) = told_of_end end
-told_of (Back count) = told.Accepted
-told_of (BackUntil count) = told.Accepted
-told_of (Forth count) = told.Accepted
-told_of (ForthUntil count) = told.Accepted
-told_of Done = told.Accepted
-told_of (Shows topic) = told.Accepted
 told_of (Refused refusal) = told.Refused
+told_of _ = told.Accepted
 
 -- why the request was refused, if it was
 abbrev pub refusal_of : Answer → Option Refusal
-refusal_of Nothing = None
-refusal_of (Ran done end) = None
-refusal_of (Traced done end) = None
-refusal_of (Back count) = None
-refusal_of (BackUntil count) = None
-refusal_of (Forth count) = None
-refusal_of (ForthUntil count) = None
-refusal_of Done = None
-refusal_of (Shows topic) = None
 refusal_of (Refused refusal) = Some refusal
+refusal_of _ = None
 
 -- the line of `back` and of `forth`, by its first word
 abbrev pub moved_to : List ℕ → ℕ → WorldState → List ℕ
@@ -50,13 +36,8 @@ ran_to done end w = ran_text done w.loc w.clock end
 
 -- how many changes are told before the line of steps: the one that met what was waited for
 abbrev pub told_before : End → ℕ
-told_before Halt = 0
 told_before (Until index) = 1
-told_before Break = 0
-told_before Arrived = 0
-told_before Limit = 0
-told_before Start = 0
-told_before (Fault f) = 0
+told_before _ = 0
 
 -- the text of an answer
 unfoldable pub text_of : Answer → ProgramValue → Timeline → List ℕ

@@ -57,13 +57,10 @@ after_operand operand whole (word ∷ more) = whole more
 
 -- `REG`, `over`, `cmp`, `cell E`, `unit N`, `loc E`, `conflict`; and what follows the condition, where it is whole
 abbrev pub after_until_word : (List (List ℕ) → Next) → UntilWord → List (List ℕ) → Next
-after_until_word whole (until.Set (set.Register r)) words = whole words
 after_until_word whole (until.Set set.Cell) words = after_operand next.Value whole words
 after_until_word whole (until.Set set.Location) words = after_operand next.Value whole words
-after_until_word whole (until.Set set.Toggle) words = whole words
-after_until_word whole (until.Set set.Indicator) words = whole words
 after_until_word whole until.Unit words = after_operand next.Nothing whole words
-after_until_word whole until.Conflict words = whole words
+after_until_word whole _ words = whole words
 
 abbrev pub after_until_named : (List (List ℕ) → Next) → Option UntilWord → List (List ℕ) → Next
 after_until_named whole None words = next.Nothing
@@ -99,10 +96,8 @@ after_run (steps ∷ more) = after_steps more
 
 -- `back N`, `back all`, `back break`, `back until COND`
 abbrev pub after_back_named : Option BackWord → List (List ℕ) → Next
-after_back_named None words = next.Nothing
-after_back_named (Some back.All) words = next.Nothing
-after_back_named (Some back.Break) words = next.Nothing
 after_back_named (Some back.Until) words = after_until words
+after_back_named _ words = next.Nothing
 
 unfoldable pub after_back : List (List ℕ) → Next
 after_back [] = next.Back
@@ -136,22 +131,12 @@ after_set (word ∷ more) = after_set_named (keyword_named set_name all_sets wor
 
 -- `show regs`, `show cells E E`, `show value W`, and so on
 abbrev pub after_show_word : ShowWord → List (List ℕ) → Next
-after_show_word show.Registers words = next.Nothing
 after_show_word show.Cells words = two_values words
-after_show_word show.Clock words = next.Nothing
-after_show_word show.Breaks words = next.Nothing
-after_show_word show.Changes words = next.Nothing
-after_show_word show.Unit words = next.Nothing
-after_show_word show.All words = next.Nothing
 after_show_word show.Code words = two_values words
 after_show_word show.Value words = one_value words
 after_show_word show.Values words = two_values words
-after_show_word show.Symbols words = next.Nothing
-after_show_word show.Last words = next.Nothing
 after_show_word show.Writes words = after_conditions 1 words
-after_show_word show.Diff words = next.Nothing
-after_show_word show.Counts words = next.Nothing
-after_show_word show.Conflicts words = next.Nothing
+after_show_word _ words = next.Nothing
 
 abbrev pub after_show_named : Option ShowWord → List (List ℕ) → Next
 after_show_named None words = next.Nothing
@@ -163,16 +148,14 @@ after_show (word ∷ more) = after_show_named (keyword_named show_name all_shows
 
 -- the words after a command's first; `step N`, `trace N`, `goto N` take a number, `break E`, `break line N` and `clear` in the same manner a place
 abbrev pub after_command : CommandWord → List (List ℕ) → Next
-after_command command.Step words = next.Nothing
-after_command command.Trace words = next.Nothing
 after_command command.Run words = after_run words
 after_command command.Back words = after_back words
 after_command command.Forth words = after_forth words
-after_command command.Goto words = next.Nothing
 after_command command.Set words = after_set words
 after_command command.Break words = if_first next.Place words
 after_command command.Clear words = if_first next.Place words
 after_command command.Show words = after_show words
+after_command _ words = next.Nothing
 
 abbrev pub after_named : Option CommandWord → List (List ℕ) → Next
 after_named None words = next.Nothing

@@ -37,13 +37,8 @@ use_text way.Input = codes " is used while unit "
 use_text way.Output = codes " is altered while unit "
 
 abbrev pub output_text : UnitKind → List ℕ
-output_text unit.Tape = codes " writes it until "
-output_text unit.Disk = codes " writes it until "
-output_text unit.CardReader = codes " writes it until "
-output_text unit.CardPunch = codes " writes it until "
 output_text unit.Printer = codes " prints it until "
-output_text unit.Typewriter = codes " writes it until "
-output_text unit.PaperTape = codes " writes it until "
+output_text _ = codes " writes it until "
 
 abbrev pub transfer_text : Direction → UnitKind → List ℕ
 transfer_text way.Input kind = codes " reads into it until "

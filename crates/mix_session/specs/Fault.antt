@@ -28,12 +28,8 @@ refusal_name NoSuchChange = codes "no such change"
 
 -- what is reported after the words: of the machine its own fault
 abbrev pub refusal_detail : Refusal → List ℕ
-refusal_detail NoSuchCommand = []
-refusal_detail BadArgument = []
-refusal_detail OutOfRange = []
-refusal_detail TooFewChanges = []
 refusal_detail (RefusedByMachine fault) = codes ": " ++ fault_line fault
-refusal_detail NoSuchChange = []
+refusal_detail _ = []
 
 -- `C1 no such command`, `C5 refused by the machine: M7 index overflow`
 abbrev pub refusal_text : Refusal → List ℕ

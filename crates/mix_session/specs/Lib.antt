@@ -20,6 +20,7 @@ pub mod Moments
 pub mod Named
 pub mod Names
 pub mod Operand
+pub mod Over
 pub mod Passages
 pub mod Path
 pub mod Plain

@@ -12,13 +12,8 @@ use Rattle.mix_session.specs.declared.reply.Told.TheVariants.{Accepted, Refused}
 
 -- whether `step` or `run` is accepted: only a fault refuses
 abbrev pub told_of_end : End → Told
-told_of_end Halt = Accepted
-told_of_end (Until index) = Accepted
-told_of_end Break = Accepted
-told_of_end Arrived = Accepted
-told_of_end Limit = Accepted
-told_of_end Start = Accepted
 told_of_end (Fault f) = Refused
+told_of_end _ = Accepted
 
 -- of two commands: accepted where both are
 abbrev pub told_of_both : Told → Told → Told

@@ -18,13 +18,7 @@ flags_text w = codes "over " ++ toggle_name w.over ++ codes " cmp " ++ indicator
 abbrev pub by_width : {Text : Type 0} → Reg → Text → Text → Text
 by_width reg.A long short = long
 by_width reg.X long short = long
-by_width reg.I1 long short = short
-by_width reg.I2 long short = short
-by_width reg.I3 long short = short
-by_width reg.I4 long short = short
-by_width reg.I5 long short = short
-by_width reg.I6 long short = short
-by_width reg.J long short = short
+by_width _ long short = short
 
 -- what a register holds, as bytes
 abbrev pub value_text : Reg → WordValue → List ℕ

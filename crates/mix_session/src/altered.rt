@@ -1,6 +1,6 @@
 //! What differs between two states of the machine, as values: the parts that differ.
 
-ghost use Rattle.std.specs.Prelude.{◌≡◌, ◌≤◌, ◌<◌, ◌++◌, ◌∷◌, [], Some, Ok, OnOk, IfOk};
+ghost use Rattle.std.specs.Prelude.{◌≡◌, ◌<◌, ◌++◌, ◌∷◌, [], Some, Ok, OnOk, IfOk};
 ghost use Rattle.std.specs.List.{filter};
 ghost use Rattle.undo_core.specs.Replay.{put_back};
 ghost use Rattle.mix_machine.specs.Prelude.{does, put_value};

@@ -1,9 +1,9 @@
 //! What a request does to the journal, and what is answered.
 
-ghost use Rattle.std.specs.Prelude.{◌≡◌, ◌≤◌, ◌<◌, ℕ, IfErr, IfOk, Ok, false, length};
+ghost use Rattle.std.specs.Prelude.{◌≡◌, ◌≤◌, ◌<◌, ℕ, IfErr, IfOk, Ok, length};
 ghost use Rattle.mix_session.specs.Timeline.{back_by, forth_by};
-ghost use Rattle.mix_session.specs.Command.{effect_of, effect_of_back, effect_of_back_within, effect_of_forth, effect_of_forth_within, effect_of_goto, effect_of_change};
-ghost use Rattle.mix_session.specs.Command.{effect_of_show, is_there, HasEffect};
+ghost use Rattle.mix_session.specs.Command.{effect_of, effect_of_back, effect_of_back_within, effect_of_forth, effect_of_forth_within, effect_of_change};
+ghost use Rattle.mix_session.specs.Command.{effect_of_show, HasEffect};
 ghost use Rattle.mix_session.specs.BrokenOff.{asks_first, BrokenOff, IsBefore};
 
 mod plain;
@@ -49,7 +49,14 @@ pub(crate) fn execute(
             do_again(journal, count)
         }
         Request::ForthUntil(conditions) => forth_until(alloc, journal, &conditions),
-        Request::Goto(number) => go_to(journal, number),
+        Request::Goto(number) => {
+            let done = journal.done() as u64;
+            if number < done {
+                Ok(take_back(journal, (done - number) as usize))
+            } else {
+                forth(journal, number - done)
+            }
+        }
         Request::Change(change) => change_by(journal, change),
         Request::Show(topic) => Ok(show(journal, topic)),
     }
@@ -102,19 +109,6 @@ fn do_again(journal: &mut Journal<World>, count: usize) -> Result<Answer, Memory
     Ok(Answer::Forth(count))
 }
 
-// To the state after the first changes of all, those done and those ahead.
-fn go_to(journal: &mut Journal<World>, number: u64) -> Result<Answer, Memory>
-    ensures effect { HasEffect (effect_of_goto journal.old number) journal.old journal.new result }
-    ensures memory { IfErr result (λ _. IsBefore (effect_of_goto journal.old number) journal.new) }
-{
-    let done = journal.done() as u64;
-    if number < done {
-        Ok(take_back(journal, (done - number) as usize))
-    } else {
-        forth(journal, number - done)
-    }
-}
-
 // Does the next changes ahead again, one at a time.
 fn go_forth(journal: &mut Journal<World>, count: usize) -> Result<(), Memory>
     requires { count ≤ length journal.old.ahead }
@@ -143,19 +137,10 @@ fn change_by(journal: &mut Journal<World>, change: Change) -> Result<Answer, Mem
 fn show(journal: &mut Journal<World>, topic: Topic) -> Answer
     ensures { HasEffect (effect_of_show journal.old topic) journal.old journal.new (Ok result) }
 {
-    if is_there(journal, &topic) {
-        Answer::Shows(topic)
-    } else {
-        Answer::Refused(Refusal::TooFewChanges)
-    }
-}
-
-// Whether there is what is to be shown.
-fn is_there(journal: &Journal<World>, topic: &Topic) -> bool
-    ensures { result ≡ is_there journal.now topic.now }
-{
-    match *topic {
-        Topic::Diff(number) => number <= journal.all().len() as u64,
-        _ => true,
+    match topic {
+        Topic::Diff(number) if number > journal.all().len() as u64 => {
+            Answer::Refused(Refusal::TooFewChanges)
+        }
+        _ => Answer::Shows(topic),
     }
 }

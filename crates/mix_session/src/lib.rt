@@ -13,6 +13,7 @@ mod fault;
 mod keyword;
 mod laws;
 mod moments;
+mod over;
 mod passages;
 mod past;
 mod path;

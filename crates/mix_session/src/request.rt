@@ -5,9 +5,9 @@ mod set;
 mod topics;
 mod until;
 
-ghost use Rattle.std.specs.Prelude.{◌≡◌, ◌≤◌, ◌∷◌, [], Ok, Err, MatchResult, IfOk, codes, option_copied};
+ghost use Rattle.std.specs.Prelude.{◌≡◌, Ok, Err};
 ghost use Rattle.mix_lines.specs.Lines.{words};
-ghost use Rattle.mix_session.specs.Request.{steps_of, steps_in, count_request, run_until, run_after, run_request, request_alone, amount_in, back_request, forth_request, goto_request, line_place, break_place, request_after, request_of_words, request_of};
+ghost use Rattle.mix_session.specs.Request.{steps_of, steps_in, count_request, run_request, request_alone, amount_in, back_request, forth_request, goto_request, break_place, request_after, request_of_words, request_of};
 
 use crate::conditions::Conditions;
 use crate::fault::Refusal;
@@ -50,29 +50,24 @@ const MAX_STEPS: u64 = 1_000_000;
 
 /// Reads a line: its request, or what is wrong with its words. The asterisk is `here`, the
 /// location.
-#[tactic(auto, unfolding(crate::specs::Request::request_of))]
+#[tactic(auto, unfolding(crate::specs::Request::request_of, crate::specs::Request::request_of_words))]
 pub(crate) fn read_request(line: &[u8], program: &Program, here: Word) -> Result<Request, Refusal>
     ensures { result ≡ request_of program.now here line.now }
 {
     if is_comment(line) {
         return Ok(Request::Nothing);
     }
-    read_words(&mut Words::of(line), program, here)
-}
-
-#[tactic(auto, unfolding(crate::specs::Request::request_of_words))]
-fn read_words(words: &mut Words, program: &Program, here: Word) -> Result<Request, Refusal>
-    ensures { result ≡ request_of_words program.now here words.old }
-{
+    let mut words = Words::of(line);
     let Some(word) = words.next() else {
         return Ok(Request::Nothing);
     };
     match named(word) {
         None => Err(Refusal::NoSuchCommand),
-        Some(command) => read_arguments(command, words, program, here),
+        Some(command) => read_arguments(command, &mut words, program, here),
     }
 }
 
+#[tactic(auto, unfolding(crate::specs::Request::run_request, crate::specs::Request::back_request, crate::specs::Request::forth_request, crate::specs::Request::goto_request))]
 fn read_arguments(
     command: CommandWord,
     words: &mut Words,
@@ -84,10 +79,40 @@ fn read_arguments(
     match command {
         CommandWord::Step => Ok(Request::Step(read_count(words)?)),
         CommandWord::Trace => Ok(Request::Trace(read_count(words)?)),
-        CommandWord::Run => read_run(words, program, here),
-        CommandWord::Back => read_back(words, program, here),
-        CommandWord::Forth => read_forth(words, program, here),
-        CommandWord::Goto => read_goto(words),
+        CommandWord::Run => {
+            let word = first_word(words)?;
+            match words.next() {
+                None => Ok(Request::Run(steps_in(word)?)),
+                Some(next) if next.eq_ignore_ascii_case(b"until") => {
+                    let count = number_in(word)?;
+                    let conditions = read_conditions(words, program, here)?;
+                    Ok(Request::RunUntil(steps_of(count)?, conditions))
+                }
+                Some(_) => Err(Refusal::BadArgument),
+            }
+        }
+        CommandWord::Back => {
+            let word = first_word(words)?;
+            match named(word) {
+                Some(BackWord::All) => request_alone(Request::BackAll, words),
+                Some(BackWord::Break) => request_alone(Request::BackBreak, words),
+                Some(BackWord::Until) => {
+                    Ok(Request::BackUntil(read_conditions(words, program, here)?))
+                }
+                None => Ok(Request::Back(amount_in(word, words)?)),
+            }
+        }
+        CommandWord::Forth => {
+            let word = first_word(words)?;
+            match named(word) {
+                Some(ForthWord::All) => request_alone(Request::ForthAll, words),
+                Some(ForthWord::Until) => {
+                    Ok(Request::ForthUntil(read_conditions(words, program, here)?))
+                }
+                None => Ok(Request::Forth(amount_in(word, words)?)),
+            }
+        }
+        CommandWord::Goto => Ok(Request::Goto(number_in(one_word(words)?)?)),
         CommandWord::Set => Ok(Request::Change(read_change(words, program, here)?)),
         CommandWord::Break => Ok(Request::Change(Change::Break(read_break(words, program, here)?))),
         CommandWord::Clear => Ok(Request::Change(Change::Clear(read_break(words, program, here)?))),
@@ -107,35 +132,6 @@ fn read_count(words: &mut Words) -> Result<u32, Refusal>
     steps_in(word)
 }
 
-#[tactic(auto, unfolding(crate::specs::Request::run_request))]
-fn read_run<N: Names>(words: &mut Words, names: &N, here: Word) -> Result<Request, Refusal>
-    ensures { result ≡ run_request (N.names names.now) here words.old }
-{
-    let word = first_word(words)?;
-    let Some(next) = words.next() else {
-        return Ok(Request::Run(steps_in(word)?));
-    };
-    if next.eq_ignore_ascii_case(b"until") {
-        read_run_until(word, words, names, here)
-    } else {
-        Err(Refusal::BadArgument)
-    }
-}
-
-// Steps until one of some conditions is met.
-fn read_run_until<N: Names>(
-    word: &[u8],
-    words: &mut Words,
-    names: &N,
-    here: Word,
-) -> Result<Request, Refusal>
-    ensures { result ≡ run_until (N.names names.now) here word.now words.old }
-{
-    let count = number_in(word)?;
-    let conditions = read_conditions(words, names, here)?;
-    Ok(Request::RunUntil(steps_of(count)?, conditions))
-}
-
 // How many steps a word asks for.
 fn steps_in(word: &[u8]) -> Result<u32, Refusal>
     ensures { result ≡ steps_in word.now }
@@ -148,31 +144,6 @@ fn steps_of(count: u64) -> Result<u32, Refusal>
 {
     let steps = up_to(MAX_STEPS, from_one(count)?)?;
     Ok(steps as u32)
-}
-
-#[tactic(auto, unfolding(crate::specs::Request::back_request))]
-fn read_back<N: Names>(words: &mut Words, names: &N, here: Word) -> Result<Request, Refusal>
-    ensures { result ≡ back_request (N.names names.now) here words.old }
-{
-    let word = first_word(words)?;
-    match named(word) {
-        Some(BackWord::All) => request_alone(Request::BackAll, words),
-        Some(BackWord::Break) => request_alone(Request::BackBreak, words),
-        Some(BackWord::Until) => Ok(Request::BackUntil(read_conditions(words, names, here)?)),
-        None => Ok(Request::Back(amount_in(word, words)?)),
-    }
-}
-
-#[tactic(auto, unfolding(crate::specs::Request::forth_request))]
-fn read_forth<N: Names>(words: &mut Words, names: &N, here: Word) -> Result<Request, Refusal>
-    ensures { result ≡ forth_request (N.names names.now) here words.old }
-{
-    let word = first_word(words)?;
-    match named(word) {
-        Some(ForthWord::All) => request_alone(Request::ForthAll, words),
-        Some(ForthWord::Until) => Ok(Request::ForthUntil(read_conditions(words, names, here)?)),
-        None => Ok(Request::Forth(amount_in(word, words)?)),
-    }
 }
 
 // A request after which no word is left.
@@ -191,14 +162,6 @@ fn amount_in(word: &[u8], words: &mut Words) -> Result<u64, Refusal>
     from_one(number_in(word)?)
 }
 
-#[tactic(auto, unfolding(crate::specs::Request::goto_request))]
-fn read_goto(words: &mut Words) -> Result<Request, Refusal>
-    ensures { result ≡ goto_request words.old }
-{
-    let number = number_in(one_word(words)?)?;
-    Ok(Request::Goto(number))
-}
-
 // The cell of a breakpoint, by an expression or by a line of the source.
 #[tactic(auto, unfolding(crate::specs::Request::break_place))]
 fn read_break(words: &mut Words, program: &Program, here: Word) -> Result<Place, Refusal>
@@ -208,16 +171,9 @@ fn read_break(words: &mut Words, program: &Program, here: Word) -> Result<Place,
     if words.is_end() {
         place_named(word, program, here)
     } else if word.eq_ignore_ascii_case(b"line") {
-        read_line_place(words, program)
+        let number = from_one(number_in(one_word(words)?)?)?;
+        program.cell_from(number).ok_or(Refusal::OutOfRange)
     } else {
         Err(Refusal::BadArgument)
     }
-}
-
-// The cell of the first word that the lines from a number on emit.
-fn read_line_place(words: &mut Words, program: &Program) -> Result<Place, Refusal>
-    ensures { result ≡ line_place program.now words.old }
-{
-    let number = from_one(number_in(one_word(words)?)?)?;
-    program.cell_from(number).ok_or(Refusal::OutOfRange)
 }

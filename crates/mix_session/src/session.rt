@@ -1,6 +1,6 @@
 //! A session: a program, its machine, whose changes can be taken back, and the requests and commands over it.
 
-ghost use Rattle.std.specs.Prelude.{◌≡◌, ◌<◌, ◌-◌, ◌^◌, Err, IfErr, IfOk, IfSome, false, length};
+ghost use Rattle.std.specs.Prelude.{◌≡◌, ◌<◌, ◌-◌, ◌^◌, Err, IfErr, IfOk, IfSome, length};
 ghost use Rattle.std.specs.Io.KnownBytes.{Appends, Keeps};
 ghost use Rattle.mix_session.specs.Prelude.{world_of, after, effect_of, effect_of_run, reply_of, Begun, HasEffect, opened, request_in, effect_in};
 ghost use Rattle.mix_word.specs.Word.{plus};

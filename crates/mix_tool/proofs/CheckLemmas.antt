@@ -1,13 +1,12 @@
 -- The sources of a check: one file more, up to the last or the first that can't be opened.
-use Rattle.std.proofs.Common.{◌≡◌, ℕ, ◌-◌, ◌≤◌, Bool, inl, inr, List, [], ◌∷◌, ◌++◌, length, take, drop, map, get_or, arith, Option, None, Some, Result, refl, sym, ap, ◌∙◌, subst, append_assoc}
+use Rattle.std.proofs.Common.{◌≡◌, ℕ, ◌-◌, ◌≤◌, Bool, List, [], ◌∷◌, ◌++◌, length, take, drop, map, get_or, arith, Option, None, Some, Result, refl, sym, ap, ◌∙◌, subst, append_assoc}
 use Rattle.std.proofs.lemmas.List.{map-append, append-nil, take_all}
 use Rattle.mix_plan.specs.declared.plan.Plan.TheVariants as plan
 use Rattle.mix_run.specs.Prelude.{Named, Reported, Asks, Files, Missing, Opens, asked_of, missing_of, opened_text}
 use Rattle.mix_run.specs.declared.fault.ToolFault.{ToolFault}
 use Rattle.mix_run.specs.declared.check.Reports.{Reports}
-use Rattle.mix_tool.specs.Ending.{IsAmong, IsFileOf, Seen}
+use Rattle.mix_tool.specs.Ending.{Seen}
 use Rattle.mix_tool.specs.Plan.{DoneAfter, named_of}
-use Rattle.mix_tool.proofs.EndingLemmas.{among-more}
 use Rattle.mix_tool.proofs.OpeningLemmas.{opens-end, opens-then}
 
 -- some of the names are left; those before them were opened, and their sources reported
@@ -47,30 +46,6 @@ missing-file all json names rest name left a b c reports missing split so_far op
     let same : names ≡ done ++ (name ∷ left) = so_far.1 ∙ ap (λ (l : List (List ℕ)). done ++ l) split in
     let whole = opens-then all done (name ∷ left) a b c (Some missing) so_far.2 (opens-end all (name ∷ []) left b c missing opens) in
     subst (λ (all_names : List (List ℕ)). Opens all all_names a c (Some missing)) (sym same) whole
-
--- some of the names are left; the file that was read last is one of those before them
-abbrev pub ReadSoFar : List (List ℕ) → List (List ℕ) → Option (List ℕ) → Type 0
-ReadSoFar names left file = (done : List (List ℕ)) × (names ≡ done ++ left) × IsFileOf done file
-
-among-last : (names : List (List ℕ)) (name : List ℕ) → IsAmong (names ++ name ∷ []) name
-among-last [] name = inl refl
-among-last (first ∷ rest) name = inr (among-last rest name)
-
--- a name more, which may be the one that is read last
-pub file-stays : (names : List (List ℕ)) (name : List ℕ) (file : List ℕ) → IsFileOf names (Some file) → IsFileOf (names ++ name ∷ []) (Some file)
-file-stays names name file h = among-more names (name ∷ []) file h
-
-pub file-last : (names : List (List ℕ)) (name : List ℕ) → IsFileOf (names ++ name ∷ []) (Some name)
-file-last names name = among-last names name
-
-pub read-next : (names rest : List (List ℕ)) (name : List ℕ) (left : List (List ℕ)) (file next : Option (List ℕ)) → rest ≡ name ∷ left → ReadSoFar names rest file
-    → ((before : List (List ℕ)) → IsFileOf before file → IsFileOf (before ++ name ∷ []) next) → ReadSoFar names left next
-read-next names rest name left file next split so_far more =
-    let done = so_far.0 in (
-      done ++ name ∷ [],
-      so_far.1 ∙ ap (λ (l : List (List ℕ)). done ++ l) split ∙ sym (append_assoc done (name ∷ []) left),
-      more done so_far.2,
-    )
 
 -- the files of a plan, and then its sources
 pub plan-opened : (all : Files) (found names sources : List (List ℕ)) (a b c : Option (List (List ℕ))) → found ≡ names → Opens all found a b None

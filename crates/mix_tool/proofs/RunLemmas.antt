@@ -1,5 +1,5 @@
 -- A run of a plan is that of its program with the units of its texts.
-use Rattle.std.proofs.Common.{◌≡◌, ◌∙◌, ℕ, Bool, List, [], ◌∷◌, ◌++◌, Option, Some, Result, Ok, Err, IfErr, IfOk, ap, arith, inl, inr, refl, subst, sym, take}
+use Rattle.std.proofs.Common.{◌≡◌, ◌∙◌, ℕ, Bool, List, [], Option, Result, Ok, Err, IfOk, ap, arith, refl, subst, sym, take}
 use Rattle.std.proofs.KnownBytes.{Appends-nil, Keeps-refl}
 use Rattle.std.specs.Prelude.{option_map, string_bytes}
 use Rattle.mix_files.specs.Bundle.{parts_of}
@@ -8,7 +8,7 @@ use Rattle.mixal_asm.specs.declared.fault.AsmFault.{AsmFault}
 use Rattle.mix_machine.specs.declared.units.deck_fault.DeckFault.{DeckFault}
 use Rattle.mix_machine.specs.units.Units.{UnitsState}
 use Rattle.mix_plan.specs.declared.run.RunPlan.{RunPlan}
-use Rattle.mix_run.specs.Prelude.{DrawnRun, IsMemoryOrRead, Saved, named, noted, GivesUnits}
+use Rattle.mix_run.specs.Prelude.{DrawnRun, IsMemoryOrRead, Saved, noted, GivesUnits}
 use Rattle.mix_run.specs.declared.fault.ToolFault.{ToolFault}
 use Rattle.mix_run.specs.declared.print.PrintAnswer.TheVariants.{Refused}
 use Rattle.mix_run.specs.declared.print.Printed.{Printed}
@@ -16,11 +16,8 @@ use Rattle.mix_run.specs.PrintOutput.{Leaves, PrintOutcome, kept_of, outcome_of_
 use Rattle.mix_run.specs.declared.fault.ToolFault.TheVariants as faults
 use Rattle.mix_run.specs.law.SameDeck.{kept-of_run}
 use Rattle.mix_run.specs.law.Truncation.{parts-read}
-use Rattle.mix_tool.specs.Ending.{ByEnd, IsAmong, Saves, saved_both}
-use Rattle.mix_tool.specs.Plan.{names_of_run}
+use Rattle.mix_tool.specs.Ending.{ByEnd, Saves, saved_both}
 use Rattle.mix_tool.specs.Run.{Given, Prints, options_of, subject_of, print_outcome, run_draws, run_output, units_asked, with_text}
-use Rattle.mix_tool.specs.declared.read.RunFault.{RunFault}
-use Rattle.mix_tool.proofs.EndingLemmas.{among-more, among-right}
 
 -- a read failed, or memory was refused for what is read
 pub prints-unread : (outcome : PrintOutcome) (fault : ToolFault) (told : Option (List ℕ)) → IsMemoryOrRead fault → Prints outcome (Err fault) told told
@@ -40,9 +37,9 @@ gives-none n before given text (faults.Deck fault) h = rw h refl
 gives-none n before given text faults.Write h = absurd h
 gives-none n before given text faults.Long h = absurd h
 
-pub gives-text : (n : ℕ) (before : Result UnitsState DeckFault) (units : UnitsState) (given : Bool) (text : List ℕ) (answer : Result UnitsState ToolFault)
-    → before ≡ Ok units → GivesUnits (with_text n (Ok units) given text) answer → GivesUnits (with_text n before given text) answer
-gives-text n before units given text answer made h = rw made h
+pub gives-text : (n : ℕ) (before : Result UnitsState DeckFault) (units : UnitsState) (asked given : Bool) (text : List ℕ) (answer : Result UnitsState ToolFault)
+    → before ≡ Ok units → asked ≡ given → GivesUnits (with_text n (Ok units) asked text) answer → GivesUnits (with_text n before given text) answer
+gives-text n before units asked given text answer made same h = rw made (subst (λ v. GivesUnits (with_text n (Ok units) v text) answer) same h)
 
 -- ---- a source that was read up to one byte more than a bundle may have
 
@@ -143,38 +140,3 @@ pub leaves-map : (outcome : PrintOutcome) (IsDrawn : List ℕ → Type 0) (done 
     → Leaves outcome IsDrawn done a n b m → IfOk done (λ p. IsDrawn p.map.items)
 leaves-map outcome IsDrawn (Ok printed) a b n m leaves = leaves.0.1
 leaves-map outcome IsDrawn (Err fault) a b n m broken = tt
-
--- ---- the file of a fault
-
-pub when-err : {A E : Type 0} (r : Result A E) {P Q : E → Type 0} → ((e : E) → P e → Q e) → IfErr r P → IfErr r Q
-when-err (Ok x) more is = tt
-when-err (Err e) more is = more e is
-
--- it is one of those that are read
-pub among-deck : (run : RunPlan) (file : List ℕ) → IsAmong (string_bytes run.source ∷ named (option_map string_bytes run.devices)) file
-    → IsAmong (names_of_run run) file
-among-deck run file (inl is) = inl is
-among-deck run file (inr deck) =
-    let devices = named (option_map string_bytes run.devices) in
-    let cards = named (option_map string_bytes run.cards) in
-    inr (among-more (devices ++ cards) (named (option_map string_bytes run.typewriter)) file (among-more devices cards file deck))
-
-among-named : (name : Option (List ℕ)) (file : List ℕ) → name ≡ Some file → IsAmong (named name) file
-among-named name file is = rw is (inl refl)
-
-pub among-cards : (run : RunPlan) (file : List ℕ) → option_map string_bytes run.cards ≡ Some file → IsAmong (names_of_run run) file
-among-cards run file is =
-    let devices = named (option_map string_bytes run.devices) in
-    let cards = option_map string_bytes run.cards in
-    inr (among-more (devices ++ named cards) (named (option_map string_bytes run.typewriter)) file (among-right devices (named cards) file (among-named cards file is)))
-
-pub among-typewriter : (run : RunPlan) (file : List ℕ) → option_map string_bytes run.typewriter ≡ Some file → IsAmong (names_of_run run) file
-among-typewriter run file is =
-    let before = named (option_map string_bytes run.devices) ++ named (option_map string_bytes run.cards) in
-    let typewriter = option_map string_bytes run.typewriter in
-    inr (among-right before (named typewriter) file (among-named typewriter file is))
-
-pub file-among : (run : RunPlan) (ran : Result Printed RunFault) (file : List ℕ) → IfOk ran (λ _. file ≡ string_bytes run.source)
-    → IfErr ran (λ e. file ≡ e.file.now) → IfErr ran (λ e. IsAmong (names_of_run run) e.file.now) → IsAmong (names_of_run run) file
-file-among run (Ok printed) file is same among = inl is
-file-among run (Err broken) file is same among = subst (IsAmong (names_of_run run)) (sym same) among

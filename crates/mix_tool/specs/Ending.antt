@@ -1,17 +1,13 @@
--- How the program ends: its status, and what stands on its error output.
-use Rattle.std.specs.Prelude.{◌≡◌, ◌⊎◌, ◌+◌, ◌==◌, ℕ, zero, suc, Option, None, Some, List, [], ◌∷◌, ◌++◌, Result, Ok, Err, codes, if◌then◌else◌}
-use Rattle.std.specs.Io.KnownBytes.{Appends, Keeps}
-use Rattle.mix_stream.specs.Stream.{AppendsFront}
+-- How the program ends: its status, and what it saves.
+use Rattle.std.specs.Prelude.{◌≡◌, ◌⊎◌, ⊤, ℕ, zero, suc, Option, None, Some, List, [], ◌∷◌, ◌++◌, Result, Ok, Err}
 use Rattle.mix_run.specs.Bundle.{OriginValue}
-use Rattle.mix_run.specs.Fault.{tool_fault_text}
 use Rattle.mix_run.specs.Output.{Meets, Outcome}
-use Rattle.mix_run.specs.Prelude.{PrintOutcome, kept_of, Asks, Files, Saved, WhyUnsaved, noted}
+use Rattle.mix_run.specs.Prelude.{PrintOutcome, kept_of, Asks, Files, Saved, WhyUnsaved, noted, refused_by}
 use Rattle.mix_run.specs.declared.print.PrintAnswer.{PrintAnswer}
 use Rattle.mix_run.specs.declared.print.Printed.{Printed}
 use Rattle.mix_run.specs.declared.print.steps.RunEnd.{RunEnd}
 use Rattle.mix_run.specs.declared.talk.aside.Talker.{Talker}
 use Rattle.mix_run.specs.declared.fault.ToolFault.{ToolFault}
-use Rattle.mix_run.specs.declared.reason.Reason.{Reason}
 use Rattle.mix_run.specs.Talk.{TalksWith}
 use Rattle.mix_run.specs.declared.print.PrintAnswer.TheVariants as answers
 use Rattle.mix_run.specs.declared.print.steps.RunEnd.TheVariants as ends
@@ -19,94 +15,24 @@ use Rattle.mixal_asm.specs.declared.fault.AsmFault.{AsmFault}
 use Rattle.mixal_asm.specs.Program.{ProgramValue}
 use Rattle.mix_machine.specs.declared.units.deck_fault.DeckFault.{DeckFault}
 use Rattle.mix_machine.specs.units.Units.{UnitsState}
-use Rattle.mix_run.specs.declared.fault.ToolFault.TheVariants as faults
 use Rattle.mix_run.specs.declared.replaces.Replaces.{Replaces}
 use Rattle.mix_run.specs.declared.replaces.Replaces.TheVariants as replaces
-use Rattle.mix_run.specs.Reason.{reason_text}
-
--- the file that a fault is about: of a read that failed, the one that was read
-abbrev pub file_of_fault : ToolFault → Option (List ℕ) → Option (List ℕ)
-file_of_fault faults.Memory file = None
-file_of_fault faults.Read file = file
-file_of_fault faults.Write file = None
-file_of_fault (faults.Deck fault) file = None
-file_of_fault faults.Long file = None
-
--- the name of a file after a colon, if there is one
-abbrev pub file_text : Option (List ℕ) → List ℕ
-file_text None = []
-file_text (Some name) = codes ": " ++ name
-
--- `mixrev: T2 read failed: NAME`; where no file was read, `mixrev: T2 read failed`
-abbrev pub report : ToolFault → Option (List ℕ) → List ℕ
-report fault file = codes "mixrev: " ++ (tool_fault_text fault ++ (file_text (file_of_fault fault file) ++ 10 ∷ []))
-
--- a name is one of some names
-abbrev pub IsAmong : List (List ℕ) → List ℕ → Type 0
-IsAmong [] name = ⊥
-IsAmong (first ∷ rest) name = (name ≡ first) ⊎ IsAmong rest name
-
--- a file, if it is named and reads of it have failed, or else another one
-abbrev pub failed_or : Option (List ℕ) → ℕ → List ℕ → List ℕ
-failed_or None failures other = other
-failed_or (Some name) failures other = if failures == 0 then other else name
-
--- one of the files that are read; none where no file is
-abbrev pub IsFileOf : List (List ℕ) → Option (List ℕ) → Type 0
-IsFileOf names None = names ≡ []
-IsFileOf names (Some name) = IsAmong names name
-
--- `mixrev: T4 not opened: NAME: No such file or directory`
-abbrev pub not_opened : List ℕ → Reason → List ℕ
-not_opened name reason = codes "mixrev: T4 not opened: " ++ (name ++ (reason_text reason ++ 10 ∷ []))
-
--- `mixrev: T3 write failed: NAME: No space left on device`
-abbrev pub not_written : List ℕ → Reason → List ℕ
-not_written name reason = codes "mixrev: " ++ (tool_fault_text faults.Write ++ (codes ": " ++ (name ++ (reason_text reason ++ 10 ∷ []))))
-
--- `mixrev: T8 not replaced: NAME: it holds something else`
-unfoldable pub not_replaced : List ℕ → List ℕ
-not_replaced name = codes "mixrev: T8 not replaced: " ++ (name ++ (codes ": it holds something else" ++ 10 ∷ []))
+use Rattle.mix_tool.specs.Run.{Prints}
 
 -- the status of a run: 2 where the tool itself failed
 abbrev pub status_of_run : Result ℕ ToolFault → ℕ
 status_of_run (Ok status) = status
 status_of_run (Err fault) = 2
 
--- what is told where memory is refused for a line
-abbrev pub memory_line : List ℕ
-memory_line = codes "mixrev: T1 out of memory" ++ 10 ∷ []
-
--- a line was written, or, as one failure more says, a beginning of it
-abbrev pub Wrote : List ℕ → Option (List ℕ) → Option (List ℕ) → ℕ → ℕ → Type 0
-Wrote line old new failed_old failed_new =
-    (Appends old new line × (failed_new ≡ failed_old)) ⊎ (AppendsFront old new line × (failed_new ≡ failed_old + 1))
-
--- a line is told; where memory is refused for it, that is what is told
-abbrev pub Tells : List ℕ → Option (List ℕ) → Option (List ℕ) → ℕ → ℕ → Type 0
-Tells line old new failed_old failed_new = Wrote line old new failed_old failed_new ⊎ Wrote memory_line old new failed_old failed_new
-
--- a run that ends well tells nothing, a fault of the tool is told
-abbrev pub TellsRun : Result ℕ ToolFault → Option (List ℕ) → Option (List ℕ) → Option (List ℕ) → ℕ → ℕ → Type 0
-TellsRun (Ok status) file old new failed_old failed_new = Keeps old new × (failed_new ≡ failed_old)
-TellsRun (Err fault) file old new failed_old failed_new = Tells (report fault file) old new failed_old failed_new
-
--- what is known at one moment: what the input still has, what the output and the error output
--- were told, how many writes on the error output have failed, and why the last text that was not
--- saved was not
+-- what is known at one moment: what the input still has, what the output was told, and why the last text that was not saved was not
 pub record Seen : Type 0 where
   pub input : Option (List ℕ)
   pub out : Option (List ℕ)
-  pub errors : Option (List ℕ)
-  pub failed : ℕ
   pub refusal : Option WhyUnsaved
 
--- a run with this outcome was made on some files: what it wrote and answered is the outcome, its status is answered, and its fault is told, of a read
--- with one of these files
-abbrev pub Runs : List (List ℕ) → Outcome → ℕ → Seen → Seen → Type 0
-Runs names outcome status before after =
-    (run : Result ℕ ToolFault) × (file : Option (List ℕ)) × Meets outcome run before.out after.out × (status ≡ status_of_run run)
-    × IsFileOf names file × TellsRun run file before.errors after.errors before.failed after.failed
+-- a run with this outcome was made: what it wrote and answered is the outcome, and its status is answered
+abbrev pub Runs : Outcome → ℕ → Seen → Seen → Type 0
+Runs outcome status before after = (run : Result ℕ ToolFault) × Meets outcome run before.out after.out × (status ≡ status_of_run run)
 
 -- a talk was made, which may source and reload these files, and its status is answered
 abbrev pub TalkRuns : Files → OriginValue → Result ProgramValue AsmFault → Result UnitsState DeckFault → Talker → List ℕ → ℕ → Seen → Seen → Type 0
@@ -176,3 +102,33 @@ saved_by keep svg (Err fault) = []
 abbrev pub Saves : PrintOutcome → (List ℕ → Type 0) → Option (List ℕ) → Option (List ℕ) → ℕ → Option (List Saved) → Option (List Saved) → Type 0
 Saves outcome IsDrawn keep svg status old new =
     ByEnd status ((map : List ℕ) × IsDrawn map × (new ≡ noted old (saved_both keep svg (kept_of outcome) map))) (new ≡ old)
+
+-- without a file there is nothing to refuse
+abbrev pub IsRefusable : Option (List ℕ) → Result Unit WhyUnsaved → Type 0
+IsRefusable None went = went ≡ Ok tt
+IsRefusable (Some name) went = ⊤
+
+-- a text is saved only when the run has come to its end
+abbrev pub at_end : Result PrintAnswer ToolFault → Option (List ℕ) → Option (List ℕ)
+at_end (Ok (answers.Ran ran)) name = name
+at_end (Ok (answers.Refused fault)) name = None
+at_end (Ok (answers.NoTable refusal)) name = None
+at_end (Err fault) name = None
+
+-- the status of a run, or 2 where a text is not saved
+abbrev pub saved_status : ℕ → Result Unit WhyUnsaved → Result Unit WhyUnsaved → ℕ
+saved_status status (Ok kept) (Ok drawn) = status
+saved_status status (Ok kept) (Err why) = 2
+saved_status status (Err why) drawn = 2
+
+-- After a run its deck and its map were saved, each if a file is named for it, or not: so the status says. The map is saved even if the deck is not.
+abbrev pub KeepsOrNot : Result PrintAnswer ToolFault → Option (List ℕ) → Option (List ℕ) → ℕ → ℕ → Option WhyUnsaved → Option WhyUnsaved → Type 0
+KeepsOrNot run keep svg status answered refusal refusal_after =
+    (kept : Result Unit WhyUnsaved) × (drawn : Result Unit WhyUnsaved) × (answered ≡ saved_status status kept drawn)
+    × IsRefusable (at_end run keep) kept × IsRefusable (at_end run svg) drawn × (refusal_after ≡ refused_by (refused_by refusal kept) drawn)
+
+-- a run was made: what it printed and answered is the outcome, and then its texts were saved
+abbrev pub PrintRuns : PrintOutcome → Option (List ℕ) → Option (List ℕ) → ℕ → Seen → Seen → Type 0
+PrintRuns outcome keep svg status before after =
+    (run : Result Printed ToolFault) × Prints outcome run before.out after.out
+    × KeepsOrNot (answer_of run) keep svg (status_of_print (answer_of run)) status before.refusal after.refusal

@@ -2,4 +2,3 @@ pub mod Ending
 pub mod Plan
 pub mod Run
 pub mod Shelf
-pub mod Told

@@ -1,5 +1,5 @@
 -- What a plan does: the files that it opens, in their order, and the run that it makes on their texts.
-use Rattle.std.specs.Prelude.{◌≡◌, ◌≤◌, ◌⊎◌, ⊤, ℕ, Bool, true, false, not, List, [], ◌∷◌, ◌++◌, Option, None, Some, Result, option_map, is_some, map, string_bytes, if◌then◌else◌}
+use Rattle.std.specs.Prelude.{◌≡◌, ◌≤◌, ◌⊎◌, ⊤, ℕ, Bool, true, false, not, List, [], ◌++◌, Option, None, Some, option_map, is_some, map, string_bytes, if◌then◌else◌}
 use Rattle.std.specs.Option.{option_map_or, option_or}
 use Rattle.mixal_asm.specs.Assembly.{assembly}
 use Rattle.mix_machine.specs.units.deck.Deck.{deck_of}
@@ -8,12 +8,10 @@ use Rattle.mix_plan.specs.declared.plan.Plan.{Plan}
 use Rattle.mix_plan.specs.declared.plan.Plan.TheVariants as plan
 use Rattle.mix_plan.specs.declared.run.RunPlan.{RunPlan}
 use Rattle.mix_run.specs.Prelude.{Checks, Named, debug_output, origin_given, bundle_output, list_output}
-use Rattle.mix_run.specs.declared.fault.ToolFault.{ToolFault}
 use Rattle.mix_run.specs.declared.talk.aside.Talker.{Talker}
 use Rattle.mix_run.specs.declared.talk.Streams.{Streams}
-use Rattle.mix_tool.specs.Ending.{IsFileOf, Runs, Saves, Seen, TalkRuns, Tells, TellsRun, not_opened, not_replaced, status_of_run}
-use Rattle.mix_tool.specs.Run.{Given, IsUnread, subject_of, run_draws, run_output}
-use Rattle.mix_tool.specs.Told.{PrintRuns, TellsAll}
+use Rattle.mix_tool.specs.Ending.{PrintRuns, Runs, Saves, Seen, TalkRuns}
+use Rattle.mix_tool.specs.Run.{Given, run_draws, run_output}
 use Rattle.mix_run.specs.Opening.{Files, Missing, Saved, WhyUnsaved, may_replace, missing_of, named, opened_text, text_of}
 use Rattle.mix_run.specs.declared.replaces.Replaces.{Replaces}
 use Rattle.mix_run.specs.declared.replaces.Replaces.TheVariants as replaces
@@ -118,28 +116,9 @@ pub record AreFresh {R : Type 0} (failed : R → ℕ) (texts : Texts R) : Type 0
 abbrev pub saved_names : RunPlan → List (List ℕ)
 saved_names run = named (option_map string_bytes run.keep) ++ named (option_map string_bytes run.svg)
 
--- a file of a run is that of a text of which a read has failed
-abbrev pub HasFailed : {R : Type 0} → (R → ℕ) → RunPlan → Texts R → List ℕ → Type 0
-HasFailed failed run texts file =
-    IsUnread (Some (string_bytes run.source)) (option_map_or failed texts.source.reader 0) file
-    ⊎ (IsUnread (option_map string_bytes run.devices) (option_map_or failed texts.deck.reader 0) file
-    ⊎ (IsUnread (option_map string_bytes run.cards) (option_map_or failed texts.cards.reader 0) file
-    ⊎ IsUnread (option_map string_bytes run.typewriter) (option_map_or failed texts.typewriter.reader 0) file))
-
--- the files that a run reads
-abbrev pub names_of_run : RunPlan → List (List ℕ)
-names_of_run run =
-    string_bytes run.source ∷ (named (option_map string_bytes run.devices) ++ named (option_map string_bytes run.cards))
-    ++ named (option_map string_bytes run.typewriter)
-
 -- what is seen of some streams, and of what opens files
-abbrev pub seen : {R W E : Type 0} → (R → Option (List ℕ)) → (W → Option (List ℕ)) → (E → Option (List ℕ)) → (E → ℕ) → Option WhyUnsaved → Streams R W E → Seen
-seen rest told errors failed refusal s =
-    record { input = rest s.input; out = told s.out; errors = errors s.errors; failed = failed s.errors; refusal = refusal }
-
--- the files that a session reads
-abbrev pub names_of_session : List ℕ → Option (List ℕ) → Option (List ℕ) → List (List ℕ)
-names_of_session source deck script = source ∷ (named deck ++ named script)
+abbrev pub seen : {R W E : Type 0} → (R → Option (List ℕ)) → (W → Option (List ℕ)) → Option WhyUnsaved → Streams R W E → Seen
+seen rest told refusal s = record { input = rest s.input; out = told s.out; refusal = refusal }
 
 -- by a script, if there is one, and otherwise by the lines of the input
 abbrev pub ScriptedOr : {Name : Type 0} → Option Name → Type 0 → Type 0 → Type 0
@@ -153,8 +132,7 @@ DebugsOn all session given talker status before after =
     let has_deck = is_some session.devices in
     let origin = origin_given name has_deck given.source given.deck in
     ScriptedOr session.script
-    (Runs (names_of_session name (option_map string_bytes session.devices) (option_map string_bytes session.script))
-    (debug_output session.echo has_deck given.source given.deck given.script) status before after)
+    (Runs (debug_output session.echo has_deck given.source given.deck given.script) status before after)
     ((t : List ℕ) → before.input ≡ Some t → TalkRuns all origin (assembly origin.source) (deck_of origin.deck) talker t status before after)
 
 -- a file, if one is named, that holds what may not be replaced
@@ -167,18 +145,16 @@ abbrev pub taken_of : Files → RunPlan → Option (List ℕ)
 taken_of all run =
     option_or (taken_name all replaces.Deck (option_map string_bytes run.keep)) (taken_name all replaces.Picture (option_map string_bytes run.svg))
 
--- that is told, and nothing is done; it is never so of a run of which no file is taken
+-- nothing is done then; it is never so of a run of which no file is taken
 abbrev pub IsTaken : Option (List ℕ) → ℕ → Seen → Seen → Type 0
 IsTaken None status before after = ⊥
 IsTaken (Some name) status before after =
     (status ≡ 2) × (after.input ≡ before.input) × (after.out ≡ before.out) × (after.refusal ≡ before.refusal)
-    × TellsAll (not_replaced name ∷ []) (record { told = before.errors; failed = before.failed }) (record { told = after.errors; failed = after.failed })
 
 -- a run of a program: it is made, unless a file is taken
 abbrev pub PrintsOn : Files → RunPlan → Given → ℕ → Seen → Seen → Type 0
 PrintsOn all run given status before after =
-    ((text : List ℕ) × PrintRuns (run_output text run given) (names_of_run run) (string_bytes run.source) (subject_of (option_map string_bytes run.subject))
-    (option_map string_bytes run.keep) (option_map string_bytes run.svg) status before after)
+    ((text : List ℕ) × PrintRuns (run_output text run given) (option_map string_bytes run.keep) (option_map string_bytes run.svg) status before after)
     ⊎ IsTaken (taken_of all run) status before after
 
 -- whether a session is by the lines of the input
@@ -188,24 +164,21 @@ is_talk None = true
 
 -- the run of a plan on its texts; a check finds its sources in the files; a client of the debug adapter is served
 abbrev pub RunsOn : Files → Plan → Given → Talker → ℕ → Seen → Seen → Type 0
-RunsOn all plan.Bundle given talker status before after = (b : List ℕ) → before.input ≡ Some b → Runs [] (bundle_output b) status before after
-RunsOn all (plan.List source) given talker status before after = Runs (string_bytes source ∷ []) (list_output given.source) status before after
-RunsOn all (plan.Typeset source) given talker status before after =
-    (run : Result ℕ ToolFault) × (file : Option (List ℕ)) × (status ≡ status_of_run run) × IsFileOf (string_bytes source ∷ []) file
-    × TellsRun run file before.errors after.errors before.failed after.failed
+RunsOn all plan.Bundle given talker status before after = (b : List ℕ) → before.input ≡ Some b → Runs (bundle_output b) status before after
+RunsOn all (plan.List source) given talker status before after = Runs (list_output given.source) status before after
+RunsOn all (plan.Typeset source) given talker status before after = ⊤
 RunsOn all (plan.Check sources json) given talker status before after =
-    Checks json (named_of all (map string_bytes sources.items)) (λ outcome. Runs (map string_bytes sources.items) outcome status before after)
+    Checks json (named_of all (map string_bytes sources.items)) (λ outcome. Runs outcome status before after)
 RunsOn all (plan.Debug session) given talker status before after = DebugsOn all session given talker status before after
 RunsOn all (plan.Run run) given talker status before after = PrintsOn all run given status before after
 RunsOn all plan.Dap given talker status before after = status ≤ 2
 RunsOn all plan.Lsp given talker status before after = status ≤ 2
 
--- the first file that can't be opened is told and why, and the status is 2; if there is none, the run is made
+-- where a file can't be opened, the status is 2, and nothing is read or written; if there is none such, the run is made
 abbrev pub DoneAfter : Option Missing → Type 0 → ℕ → Seen → Seen → Type 0
 DoneAfter None Run status before after = Run
 DoneAfter (Some missing) Run status before after =
     (status ≡ 2) × (after.input ≡ before.input) × (after.out ≡ before.out)
-    × Tells (not_opened missing.0 missing.1) before.errors after.errors before.failed after.failed
 
 -- a plan is done
 abbrev pub IsDone : Files → Plan → Talker → ℕ → Seen → Seen → Type 0

@@ -1,5 +1,5 @@
 -- What a run of a plan writes, answers and keeps, and which map it draws: functions of what it asks for and of its texts.
-use Rattle.std.specs.Prelude.{◌≡◌, ◌≢◌, ℕ, Bool, List, [], Option, None, Some, option_map, is_some, string_bytes, Result, Ok, Err, if◌then◌else◌}
+use Rattle.std.specs.Prelude.{◌≡◌, ℕ, Bool, List, [], Option, None, Some, option_map, is_some, string_bytes, Result, Ok, Err, if◌then◌else◌}
 use Rattle.std.specs.Io.KnownBytes.{Appends, Keeps}
 use Rattle.mix_files.specs.Bundle.{parts_of}
 use Rattle.mixal_asm.specs.Prelude.{assembly, ProgramValue}
@@ -27,7 +27,6 @@ use Rattle.mix_run.specs.declared.print.options.UnitSet.{UnitSet as RunUnits}
 use Rattle.mix_run.specs.declared.table.TableFormat.{TableFormat as RunFormat}
 use Rattle.mix_run.specs.declared.table.TableFormat.TheVariants as table
 use Rattle.mix_stream.specs.Stream.{AppendsFront}
-use Rattle.mix_tool.specs.declared.read.RunFault.{RunFault}
 use Rattle.mix_tool.specs.declared.read.TextUnit.{TextUnit}
 use Rattle.mix_tool.specs.declared.read.TextUnit.TheVariants as text_unit
 
@@ -126,12 +125,3 @@ Prints outcome (Err faults.Long) old new = ⊥
 Prints outcome (Err faults.Memory) old new = AppendsFront old new (bytes_of outcome)
 Prints outcome (Err faults.Write) old new = AppendsFront old new (bytes_of outcome)
 Prints outcome (Err faults.Read) old new = Keeps old new
-
--- an answer, without the file of its fault
-abbrev pub without_file : {A : Type 0} → Result A RunFault → Result A ToolFault
-without_file (Ok answer) = Ok answer
-without_file (Err broken) = Err broken.fault
-
--- a file is that of a text of this name, of which so many reads have failed
-abbrev pub IsUnread : Option (List ℕ) → ℕ → List ℕ → Type 0
-IsUnread name failures file = (name ≡ Some file) × (failures ≢ 0)

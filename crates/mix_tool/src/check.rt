@@ -1,8 +1,8 @@
 //! A check of the sources of some files.
 
-ghost use Rattle.std.specs.Prelude.{◌≡◌, ◌≢◌, ◌<◌, ◌≤◌, ◌-◌, ◌^◌, ◌++◌, ◌∷◌, [], ℕ, List, None, Some, IfErr, IfOk, map, option_map, string_bytes};
+ghost use Rattle.std.specs.Prelude.{◌≡◌, ◌≢◌, ◌<◌, ◌≤◌, ◌-◌, ◌^◌, ◌++◌, ◌∷◌, [], List, None, Some, IfErr, IfOk, map, string_bytes};
 ghost use Rattle.mix_run.specs.Prelude.{Checks, Named, Reported, Asks, Files, Opens, asked_of, missing_of, opened_text};
-ghost use Rattle.mix_tool.specs.Ending.{IsFileOf, Runs};
+ghost use Rattle.mix_tool.specs.Ending.{Runs};
 ghost use Rattle.mix_tool.specs.Plan.{DoneAfter, named_of, seen};
 
 use crate::ending::{status, tell_not_opened};
@@ -41,10 +41,7 @@ fn last_read<'n>(
     reports: &Result<Reports, ToolFault>,
     before: Option<&'n str>,
     name: &'n str,
-) -> Option<&'n str>
-    ensures { (names : List (List ℕ)) → IsFileOf names (option_map (λ n. n.now) before.entry)
-        → IsFileOf (names ++ name.now ∷ []) (option_map (λ n. n.now) result) }
-{
+) -> Option<&'n str> {
     match (reports, before) {
         (Err(_), Some(file)) => Some(file),
         _ => Some(name),
@@ -64,7 +61,6 @@ fn report_files<'n, O: Opener>(
         → IfErr result (λ e. Opens all (map string_bytes sources.entry.now) (O.asked files.old) (O.asked files.new) (Some (e.name.now, e.reason))) }
     ensures reported { (all : Files) → O.holds files.old ≡ Some all
         → IfOk result (λ r. Reported json (named_of all (map string_bytes sources.entry.now)) r.0) }
-    ensures file { IfOk result (λ r. IsFileOf (map string_bytes sources.entry.now) (option_map (λ n. n.now) r.1)) }
 {
     let mut reports = Ok(no_reports(alloc));
     let mut file = None;
@@ -87,13 +83,12 @@ pub(crate) fn check_files<O: Opener, R: In, W: Out, E: Out>(
     streams: &mut Streams<R, W, E>,
 ) -> u8
     requires out_count { W.failed streams.old.out < 2 ^ 64 - 1 }
-    requires errors_count { E.failed streams.old.errors < 2 ^ 64 - 1 }
     ensures opened { (all : Files) → O.holds files.old ≡ Some all
         → Asks (O.asked files.old) (O.asked files.new) (asked_of all (map string_bytes sources.now)) }
     ensures done { (all : Files) → O.holds files.old ≡ Some all → let names = map string_bytes sources.now in
         DoneAfter (missing_of all names)
-        (Checks json (named_of all names) (λ outcome. Runs names outcome result (seen R.rest W.told E.told E.failed (O.refusal files.old) streams.old) (seen R.rest W.told E.told E.failed (O.refusal files.new) streams.new)))
-        result (seen R.rest W.told E.told E.failed (O.refusal files.old) streams.old) (seen R.rest W.told E.told E.failed (O.refusal files.new) streams.new) }
+        (Checks json (named_of all names) (λ outcome. Runs outcome result (seen R.rest W.told (O.refusal files.old) streams.old) (seen R.rest W.told (O.refusal files.new) streams.new)))
+        result (seen R.rest W.told (O.refusal files.old) streams.old) (seen R.rest W.told (O.refusal files.new) streams.new) }
     ensures input { streams.new.input ≡ streams.old.input }
     ensures range { result ≤ 3 }
     ensures written { result ≢ 2 → W.failed streams.new.out ≡ W.failed streams.old.out }

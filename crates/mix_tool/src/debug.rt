@@ -5,7 +5,7 @@ ghost use Rattle.mix_run.specs.Opening.{Files};
 ghost use Rattle.mix_tool.specs.Plan.{AreFresh, DebugsOn, HoldTexts, is_talk, seen};
 ghost use Rattle.mix_tool.specs.Run.{Given};
 
-use crate::ending::{status, status_beside, unread};
+use crate::ending::{status, unread};
 use crate::texts::Texts;
 use mix_plan::DebugPlan;
 use mix_run::{DebugOptions, Opener, Streams, TalkTexts, run_debug, run_talk};
@@ -24,9 +24,8 @@ pub(crate) fn debug_on<O: Opener, R: In, W: Out, E: Out>(
     requires fresh { AreFresh O.Reader.failed texts }
     requires input_count { R.failed streams.old.input < 2 ^ 64 - 1 }
     requires out_count { W.failed streams.old.out < 2 ^ 64 - 1 }
-    requires errors_count { E.failed streams.old.errors < 2 ^ 64 - 1 }
     ensures runs { (all : Files) (given : Given) → O.holds files.old ≡ Some all → HoldTexts O.Reader.rest texts given
-        → DebugsOn all plan.now given streams.old.talker result (seen R.rest W.told E.told E.failed (O.refusal files.old) streams.old) (seen R.rest W.told E.told E.failed (O.refusal files.new) streams.new) }
+        → DebugsOn all plan.now given streams.old.talker result (seen R.rest W.told (O.refusal files.old) streams.old) (seen R.rest W.told (O.refusal files.new) streams.new) }
     ensures input { is_talk plan.now.script ≡ false → streams.new.input ≡ streams.old.input }
     ensures unasked { O.asked files.new ≡ O.asked files.old }
     ensures range { result ≤ 3 }
@@ -47,21 +46,20 @@ pub(crate) fn debug_on<O: Opener, R: In, W: Out, E: Out>(
             let (out, echo) = (&mut streams.out, plan.echo);
             let options = DebugOptions { deck: given, echo };
             let outcome = run_debug(alloc, &mut source, &mut deck, &mut lines, options, out);
-            let failures = (deck.failures(), lines.failures());
-            let (deck, last) = (plan.devices.as_deref(), plan.script.as_deref());
-            let file = unread(name, deck, last, failures);
+            let deck = (plan.devices.as_deref(), deck.failures());
+            let file = unread(name, &[deck, (plan.script.as_deref(), lines.failures())]);
             status(alloc, outcome, Some(file), &mut streams.errors)
         }
         None => {
             let mut texts = TalkTexts { source, deck };
             let outcome = run_talk(alloc, name, &mut texts, given, files, streams);
-            let failures = (texts.deck.failures(), 0);
-            let file = if texts.source.failures() > 0 || failures.0 > 0 {
-                Some(unread(name, plan.devices.as_deref(), None, failures))
+            let failures = texts.deck.failures();
+            let file = if texts.source.failures() > 0 || failures > 0 {
+                Some(unread(name, &[(plan.devices.as_deref(), failures)]))
             } else {
                 None
             };
-            status_beside(alloc, outcome, file, &mut streams.errors)
+            status(alloc, outcome, file, &mut streams.errors)
         }
     }
 }

@@ -1,12 +1,11 @@
 //! What the units hold at the end of a run, and its map, each saved in a file.
 
-ghost use Rattle.std.specs.Prelude.{◌≡◌, ◌≢◌, ◌≤◌, ◌∷◌, [], IfOk, IfSome, OnOk, Some, option_map, string_bytes};
+ghost use Rattle.std.specs.Prelude.{◌≡◌, ◌≢◌, ◌≤◌, IfOk, IfSome, Some, option_map, string_bytes};
 ghost use Rattle.mix_run.specs.Opening.{Asks, Files, named, noted, refused_by};
-ghost use Rattle.mix_tool.specs.Ending.{EndsWith, answer_of, not_replaced, saved_after, saved_as, saved_by};
+ghost use Rattle.mix_tool.specs.Ending.{EndsWith, IsRefusable, KeepsOrNot, answer_of, saved_after, saved_as, saved_by};
 ghost use Rattle.mix_tool.specs.Plan.{saved_names, taken_name, taken_of};
-ghost use Rattle.mix_tool.specs.Told.{IsRefusable, SavesTold, TellsAll, beside, save_told, unsaved_line};
 
-use crate::ending::{not_opened_line, not_replaced_line, not_written_line, tell_beside};
+use crate::ending::{not_opened_line, tell};
 use mix_cli::FAILED;
 use mix_plan::RunPlan;
 use mix_refused::{Memory, Refused};
@@ -14,15 +13,22 @@ use mix_run::{Opener, PrintAnswer, Printed, Replaces, ToolFault, Unsaved};
 use mix_stream::Out;
 use std::alloc::{AllocError, Global};
 
-// What prevents that a text is saved.
-fn unsaved_line(alloc: Global, name: &str, refused: Refused<Unsaved>) -> Result<String, AllocError>
-    ensures { IfOk result (λ s. string_bytes s ≡ unsaved_line name.now refused) }
-{
+/// What prevents that a text is saved.
+pub(crate) fn unsaved_line(
+    alloc: Global,
+    name: &str,
+    refused: Refused<Unsaved>,
+) -> Result<String, AllocError> {
     match refused {
         Refused::Memory => Err(AllocError),
         Refused::Fault(Unsaved::NotOpened(reason)) => not_opened_line(alloc, name, reason),
-        Refused::Fault(Unsaved::NotWritten(reason)) => not_written_line(alloc, name, reason),
-        Refused::Fault(Unsaved::Taken) => not_replaced_line(alloc, name),
+        Refused::Fault(Unsaved::NotWritten(reason)) => {
+            let (fault, reason) = (ToolFault::Write, reason.text());
+            format!(in alloc; "mixrev: {fault}: {name}{reason}\n")
+        }
+        Refused::Fault(Unsaved::Taken) => {
+            format!(in alloc; "mixrev: T8 not replaced: {name}: it holds something else\n")
+        }
     }
 }
 
@@ -59,15 +65,6 @@ pub(crate) fn taken<'p, O: Opener>(files: &O, alloc: Global, plan: &'p RunPlan) 
     }
 }
 
-/// A file that may not be replaced is told, before a run is made.
-pub(crate) fn tell_taken<E: Out>(alloc: Global, name: &str, errors: &mut E) -> u8
-    ensures status { result ≡ 2 }
-    ensures told { TellsAll (not_replaced name.now ∷ []) (beside E.told E.failed errors.old) (beside E.told E.failed errors.new) }
-{
-    tell_beside(not_replaced_line(alloc, name), errors);
-    FAILED
-}
-
 // Saves a text in a file, if one is named for it, in place of what it may hold. What prevents that is told.
 fn save_named<O: Opener, E: Out>(
     files: &mut O,
@@ -82,8 +79,6 @@ fn save_named<O: Opener, E: Out>(
     ensures asked { O.asked files.new ≡ O.asked files.old }
     ensures refused { O.refusal files.new ≡ refused_by (O.refusal files.old) result }
     ensures refusable { IsRefusable (option_map string_bytes name.now) result }
-    ensures told { TellsAll (save_told (option_map string_bytes name.now) result) (beside E.told E.failed errors.old) (beside E.told E.failed errors.new) }
-    ensures quiet { OnOk result (errors.new ≡ errors.old) }
 {
     match name {
         None => Ok(()),
@@ -91,7 +86,7 @@ fn save_named<O: Opener, E: Out>(
             Ok(()) => Ok(()),
             Err(refused) => {
                 let why = refused;
-                tell_beside(unsaved_line(alloc, name, why), errors);
+                tell(unsaved_line(alloc, name, why), errors);
                 Err(refused)
             }
         },
@@ -114,8 +109,8 @@ pub(crate) fn save_files<O: Opener, E: Out>(
         ≡ noted (O.saved files.old) (saved_by (option_map string_bytes plan.now.keep) (option_map string_bytes plan.now.svg) printed.now) }
     ensures asked { O.asked files.new ≡ O.asked files.old }
     ensures status { EndsWith (saved_after (saved_names plan.now) (answer_of printed.now)) status result }
-    ensures told { SavesTold (answer_of printed.now) (option_map string_bytes plan.now.keep) (option_map string_bytes plan.now.svg) status result
-        (O.refusal files.old) (O.refusal files.new) (beside E.told E.failed errors.old) (beside E.told E.failed errors.new) }
+    ensures kept { KeepsOrNot (answer_of printed.now) (option_map string_bytes plan.now.keep) (option_map string_bytes plan.now.svg) status result
+        (O.refusal files.old) (O.refusal files.new) }
     ensures range { status ≤ 3 → result ≤ 3 }
     ensures well { result ≢ 2 → (result ≡ status) × (O.refusal files.new ≡ O.refusal files.old) }
 {

@@ -3,7 +3,6 @@
 
 mod asked;
 mod check;
-mod conflicts;
 mod debug;
 mod ending;
 mod keep;

@@ -35,13 +35,12 @@ fn run_on<O: Opener, R: In, W: Out, E: Out>(
     requires clientless { hears_client plan.now ≡ false }
     requires input_count { R.failed streams.old.input < 2 ^ 64 - 1 }
     requires out_count { W.failed streams.old.out < 2 ^ 64 - 1 }
-    requires errors_count { E.failed streams.old.errors < 2 ^ 64 - 1 }
     ensures all_saved { (names : List (List ℕ)) → creates_of plan.now ≡ Some names → result ≢ 2 → O.refusal files.new ≡ O.refusal files.old }
     ensures opened { (all : Files) → O.holds files.old ≡ Some all → Asks (O.asked files.old) (O.asked files.new) (asked_of all (sources_of plan.now)) }
     ensures done { (all : Files) (given : Given) → O.holds files.old ≡ Some all → HoldTexts O.Reader.rest texts given
         → DoneAfter (missing_of all (sources_of plan.now))
-        (RunsOn all plan.now given streams.old.talker result (seen R.rest W.told E.told E.failed (O.refusal files.old) streams.old) (seen R.rest W.told E.told E.failed (O.refusal files.new) streams.new))
-        result (seen R.rest W.told E.told E.failed (O.refusal files.old) streams.old) (seen R.rest W.told E.told E.failed (O.refusal files.new) streams.new) }
+        (RunsOn all plan.now given streams.old.talker result (seen R.rest W.told (O.refusal files.old) streams.old) (seen R.rest W.told (O.refusal files.new) streams.new))
+        result (seen R.rest W.told (O.refusal files.old) streams.old) (seen R.rest W.told (O.refusal files.new) streams.new) }
     ensures created { (names : List (List ℕ)) → creates_of plan.now ≡ Some names → Creates names result (O.created files.old) (O.created files.new) }
     ensures saved { (given : Given) → HoldTexts O.Reader.rest texts given → SavesOn plan.now given result (O.saved files.old) (O.saved files.new) }
     ensures input { reads_input plan.now ≡ false → streams.new.input ≡ streams.old.input }
@@ -98,8 +97,8 @@ pub fn run_plan<O: Opener + Library, C: In, R: In, W: Out, E: Out>(
 
     // That one is told, or else the run of the plan is made on the texts of its files, and its status is answered.
     ensures done { (all : Files) → O.holds files.old ≡ Some all
-        → IsDone all plan.now streams.old.talker result (seen R.rest W.told E.told E.failed (O.refusal files.old) streams.old)
-        (seen R.rest W.told E.told E.failed (O.refusal files.new) streams.new) }
+        → IsDone all plan.now streams.old.talker result (seen R.rest W.told (O.refusal files.old) streams.old)
+        (seen R.rest W.told (O.refusal files.new) streams.new) }
 
     // A run creates the files that its units are kept and its map is drawn in, when it has come to its end, and no other.
     ensures created { (names : List (List ℕ)) → creates_of plan.now ≡ Some names → Creates names result (O.created files.old) (O.created files.new) }

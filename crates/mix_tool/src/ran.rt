@@ -1,72 +1,86 @@
-//! What is answered of a run, and what is told of it.
+//! What is answered of a run, and what is told of it: a step that conflicts with a transfer under way
+//! (1.3.1, "Input-output operators"), and where the run came to.
 
-ghost use Rattle.std.specs.Prelude.{◌≡◌, IfOk, codes, false, option_map, string_bytes};
-ghost use Rattle.mix_machine.specs.Fault.{fault_line};
+ghost use Rattle.std.specs.Prelude.{◌≡◌, false};
 ghost use Rattle.mix_tool.specs.Ending.{answer_of, status_of_end, status_of_print};
-ghost use Rattle.mix_tool.specs.Run.{subject_of};
-ghost use Rattle.mix_tool.specs.Told.{TellsAll, answer_told, at_text, beside, conflict_told, end_told, no_table, place_text, ran_told, stop_text};
 
 use crate::asked::subject_of;
-use crate::conflicts::{At, conflict_line, place, tell_conflicts};
-use crate::ending::{status_beside, tell_beside};
+use crate::ending::{status, tell};
 use mix_cli::FAILED;
-use mix_machine::MixFault;
 use mix_plan::RunPlan;
 use mix_run::{
     Conflict, DONE, NOT_DONE, PrintAnswer, Printed, RanTo, RunEnd, SOURCE_REFUSED, Shows, ToolFault,
 };
-use mix_session::Refusal;
+use mix_session::conflict_text;
 use mix_stream::Out;
 use mix_word::Location;
 use std::alloc::{AllocError, Global};
+use std::fmt;
+
+// The name of a source, with the number of a line if there is one.
+fn place(alloc: Global, name: &str, line: Option<u32>) -> Result<String, AllocError> {
+    match line {
+        Some(line) => format!(in alloc; "{name}:{line}"),
+        None => String::from_str(alloc, name),
+    }
+}
 
 // Where a run came to, and why it ends there: `prog.mixal:2: steps used up at 0001 clock 1`.
-fn stop_line(alloc: Global, name: &str, ran: &RanTo, why: &str) -> Result<String, AllocError>
-    ensures { IfOk result (λ s. string_bytes s ≡
-        stop_text (place_text name.now ran.now.line) why.now (at_text ran.now.loc ran.now.clock)) }
-{
-    let place = place(alloc, name, ran.line)?;
-    let at = At(ran.loc, ran.clock);
-    let text = format!(in alloc; "{place}: {why} at {at}\n")?;
-    Ok(text)
-}
-
-// By a fault: `prog.mixal:3: M8 negative shift at 0002 clock 5`.
-fn fault_stop(alloc: Global, name: &str, ran: &RanTo, fault: MixFault) -> Result<String, AllocError>
-    ensures { IfOk result (λ s. string_bytes s ≡
-        stop_text (place_text name.now ran.now.line) (fault_line fault) (at_text ran.now.loc ran.now.clock)) }
-{
-    let why = format!(in alloc; "{fault}")?;
-    stop_line(alloc, name, ran, why.as_str())
-}
-
-// By a conflict, where none may be.
-fn conflict_stop(
+fn stop_line<T: fmt::Display + Drop>(
     alloc: Global,
     name: &str,
     ran: &RanTo,
-    conflict: Conflict,
-) -> Result<String, AllocError>
-    ensures { IfOk result (λ s. string_bytes s ≡
-        conflict_told (place_text name.now ran.now.line) (codes "error") (at_text ran.now.loc ran.now.clock) conflict) }
-{
+    why: T,
+) -> Result<String, AllocError> {
     let place = place(alloc, name, ran.line)?;
-    let at = At(ran.loc, ran.clock);
-    conflict_line(alloc, &place, "error", at, conflict)
+    let (loc, clock) = (Location(ran.loc), ran.clock);
+    format!(in alloc; "{place}: {why} at {loc} clock {clock}\n")
 }
 
-// Tells where a run came to, if not to a halt.
-fn tell_end<E: Out>(alloc: Global, name: &str, ran: &RanTo, errors: &mut E)
-    ensures { TellsAll (end_told (place_text name.now ran.now.line) (at_text ran.now.loc ran.now.clock) ran.now.end)
-        (beside E.told E.failed errors.old) (beside E.told E.failed errors.new) }
-{
+// A conflict: `fill.mixal:74: warning: at 1047 clock 424 cell 2001 is altered while unit 18 prints it until 726`.
+fn conflict_line(
+    alloc: Global,
+    place: Result<String, AllocError>,
+    severity: &str,
+    at: (u16, u64),
+    conflict: Conflict,
+) -> Result<String, AllocError> {
+    let place = place?;
+    let (loc, clock) = (Location(at.0), at.1);
+    let text = conflict_text(alloc, conflict)?;
+    format!(in alloc; "{place}: {severity}: at {loc} clock {clock} {text}\n")
+}
+
+// How many steps conflict: `fill.mixal: warning: 51 steps conflict with a transfer under way`.
+fn count_line(alloc: Global, name: &str, count: u64) -> Result<String, AllocError> {
+    if count == 1 {
+        return format!(in alloc; "{name}: warning: 1 step conflicts with a transfer under way\n");
+    }
+    format!(in alloc; "{name}: warning: {count} steps conflict with a transfer under way\n")
+}
+
+// Tells the first conflict of a run, and how many there are, if there is one; and then where the run came to, if not to a halt.
+fn tell_ran<E: Out>(alloc: Global, name: &str, ran: &RanTo, errors: &mut E) {
+    if let Some(first) = ran.conflicts.first {
+        let place = place(alloc, name, ran.conflict_line);
+        let at = (first.loc, first.clock);
+        tell(
+            conflict_line(alloc, place, "warning", at, first.conflict),
+            errors,
+        );
+        tell(count_line(alloc, name, ran.conflicts.count), errors);
+    }
     match ran.end {
         RunEnd::Halted => {}
-        RunEnd::Faulted(fault) => tell_beside(fault_stop(alloc, name, ran, fault), errors),
+        RunEnd::Faulted(fault) => tell(stop_line(alloc, name, ran, fault), errors),
+        RunEnd::UsedUp => tell(stop_line(alloc, name, ran, "steps used up"), errors),
         RunEnd::Conflicting(conflict) => {
-            tell_beside(conflict_stop(alloc, name, ran, conflict), errors)
+            let place = place(alloc, name, ran.line);
+            tell(
+                conflict_line(alloc, place, "error", (ran.loc, ran.clock), conflict),
+                errors,
+            );
         }
-        RunEnd::UsedUp => tell_beside(stop_line(alloc, name, ran, "steps used up"), errors),
     }
 }
 
@@ -78,25 +92,6 @@ fn status_of_end(end: RunEnd) -> u8
         RunEnd::Halted => DONE,
         RunEnd::Faulted(_) | RunEnd::Conflicting(_) | RunEnd::UsedUp => NOT_DONE,
     }
-}
-
-// The status of a run that came to its end. Which of its steps conflict with a transfer is told,
-// and where it came to, if not to a halt.
-fn ran_status<E: Out>(alloc: Global, name: &str, ran: &RanTo, errors: &mut E) -> u8
-    ensures status { result ≡ status_of_end ran.now.end }
-    ensures told { TellsAll (ran_told name.now ran.now) (beside E.told E.failed errors.old) (beside E.told E.failed errors.new) }
-{
-    tell_conflicts(alloc, name, ran, errors);
-    tell_end(alloc, name, ran, errors);
-    status_of_end(ran.end)
-}
-
-// There is no table of such a part, or by such values: `mixrev: C2 bad argument: PART`.
-fn no_table_line(alloc: Global, subject: &str, refusal: Refusal) -> Result<String, AllocError>
-    ensures { IfOk result (λ s. string_bytes s ≡ no_table refusal subject.now) }
-{
-    let text = format!(in alloc; "mixrev: {refusal}: {subject}\n")?;
-    Ok(text)
 }
 
 // A halt, the time of the program, and why nothing of it is to be seen: `prog.mixal: halted at 0002
@@ -130,7 +125,7 @@ pub(crate) fn tell_halt<E: Out>(
     if let PrintAnswer::Ran(ran) = &printed.answer {
         if matches!(ran.end, RunEnd::Halted) {
             let line = halt_line(alloc, plan.source.as_str(), ran, printed.shows);
-            tell_beside(line, errors);
+            tell(line, errors);
         }
     }
 }
@@ -142,22 +137,22 @@ pub(crate) fn print_status<E: Out>(
     alloc: Global,
     plan: &RunPlan,
     printed: &Result<Printed, ToolFault>,
-    file: Option<&str>,
+    file: &str,
     errors: &mut E,
 ) -> u8
-    ensures status { result ≡ status_of_print (answer_of printed.now) }
-    ensures told { TellsAll
-        (answer_told (string_bytes plan.now.source) (subject_of (option_map string_bytes plan.now.subject)) (option_map (λ n. n.now) file.entry) (answer_of printed.now))
-        (beside E.told E.failed errors.old) (beside E.told E.failed errors.new) }
+    ensures { result ≡ status_of_print (answer_of printed.now) }
 {
     match printed {
-        Err(fault) => status_beside(alloc, Err(*fault), file, errors),
+        Err(fault) => status(alloc, Err(*fault), Some(file), errors),
         Ok(printed) => match printed.answer {
-            PrintAnswer::Ran(ran) => ran_status(alloc, plan.source.as_str(), &ran, errors),
+            PrintAnswer::Ran(ran) => {
+                tell_ran(alloc, plan.source.as_str(), &ran, errors);
+                status_of_end(ran.end)
+            }
             PrintAnswer::Refused(_) => SOURCE_REFUSED,
             PrintAnswer::NoTable(refusal) => {
                 let subject = subject_of(&plan.subject);
-                tell_beside(no_table_line(alloc, subject, refusal), errors);
+                tell(format!(in alloc; "mixrev: {refusal}: {subject}\n"), errors);
                 FAILED
             }
         },

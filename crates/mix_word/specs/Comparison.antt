@@ -2,8 +2,6 @@
 use Rattle.std.specs.Prelude.{ℤ, int_lt, if◌then◌else◌}
 use Rattle.mix_word.specs.declared.word.Cmp.{Cmp}
 use Rattle.mix_word.specs.declared.word.Cmp.TheVariants.{Less, Equal, Greater}
-use Rattle.std.specs.declared.cmp.Ordering.{Ordering}
-use Rattle.std.specs.declared.cmp.Ordering.TheVariants as ordering
 use Rattle.mix_word.specs.Word.{WordValue, number_of}
 use Rattle.mix_word.specs.Field.{FieldValue, field_value_of}
 
@@ -13,14 +11,3 @@ order_of p q = if int_lt p q then Less else (if int_lt q p then Greater else Equ
 -- the order of the numbers in the fields, where -0 is +0
 abbrev pub comparison_of : WordValue → WordValue → FieldValue → Cmp
 comparison_of a v f = order_of (number_of (field_value_of a f)) (number_of (field_value_of v f))
-
--- the same outcome as the library has it
-abbrev pub ordering_of : Cmp → Ordering
-ordering_of Less = ordering.Less
-ordering_of Equal = ordering.Equal
-ordering_of Greater = ordering.Greater
-
-abbrev pub cmp_of : Ordering → Cmp
-cmp_of ordering.Less = Less
-cmp_of ordering.Equal = Equal
-cmp_of ordering.Greater = Greater

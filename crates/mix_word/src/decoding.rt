@@ -1,6 +1,6 @@
 //! What the pair (C, F) of an instruction names (1.3.1).
-ghost use Rattle.std.specs.Prelude.{◌≡◌, ◌+◌, ◌<◌, ◌≤◌, ◌↔◌, Bool, true, false, ◌⊎◌, IsTrue};
-ghost use Rattle.mix_word.specs.Prelude.{Operation, offset_of};
+ghost use Rattle.std.specs.Prelude.{◌≡◌, ◌<◌, ◌≤◌, ◌↔◌, true, false, ◌⊎◌, IsTrue};
+ghost use Rattle.mix_word.specs.Prelude.{Operation};
 ghost use Rattle.mix_word.specs.Operation.{operation_code, normal_f_of, is_by_f};
 ghost use Rattle.mix_word.specs.Table.{decode_of, is_floating, IsNamedBy};
 

@@ -1,6 +1,6 @@
 //! A word as a line of MIXAL gives it (1.3.1, 1.3.2): the instruction that it is, or else the constant.
 ghost use Rattle.std.specs.Prelude.{◌≡◌, Some};
-ghost use Rattle.mix_word.specs.Instruction.{number_text, signed_text, other_f, f_part, form_of, f_text, index_text, address_text, is_bare, after_name, instruction_text};
+ghost use Rattle.mix_word.specs.Instruction.{number_text, signed_text, other_f, form_of, f_text, index_text, address_text, after_name, instruction_text};
 
 use crate::decoding::{Decoded, decode};
 use crate::field::Field;
@@ -81,17 +81,6 @@ fn other_f(uses: Uses, f: u8) -> Option<FPart>
     }
 }
 
-// How the F of an instruction is written, if its operation may have this F.
-fn f_part(op: Operation, f: u8) -> Option<FPart>
-    ensures { result ≡ f_part op f }
-{
-    if op.normal_f() == f {
-        Some(FPart::Normal)
-    } else {
-        other_f(op.uses(), f)
-    }
-}
-
 // The operation that an instruction names, and how its F is written.
 #[tactic(auto, unfolding(crate::specs::Instruction::form_of))]
 fn form_of(p: Parts) -> Option<(Operation, FPart)>
@@ -102,7 +91,11 @@ fn form_of(p: Parts) -> Option<(Operation, FPart)>
     }
     match decode(p.code, p.f) {
         Decoded::Named(op) => {
-            let part = f_part(op, p.f)?;
+            let part = if op.normal_f() == p.f {
+                FPart::Normal
+            } else {
+                other_f(op.uses(), p.f)?
+            };
             Some((op, part))
         }
         Decoded::Floating | Decoded::Unknown => None,
@@ -141,17 +134,6 @@ impl fmt::Display for Address {
     }
 }
 
-// Whether the name of an operation stands alone.
-fn is_bare(op: Operation, p: Parts, part: FPart) -> bool
-    ensures { result ≡ is_bare op p part }
-{
-    !op.needs_address()
-        && p.sign == Sign::Plus
-        && p.address == 0
-        && p.index == 0
-        && matches!(part, FPart::Normal)
-}
-
 // What follows the name of an operation.
 #[derive(Clone, Copy)]
 struct AfterName(Operation, Parts, FPart);
@@ -160,11 +142,13 @@ impl fmt::Display for AfterName {
     ghost output = { λ a. Some (after_name a.0 a.1 a.2) };
 
     fn fmt<W: fmt::Write>(&self, f: &mut fmt::Formatter<W>) -> fmt::Result {
-        if is_bare(self.0, self.1, self.2) {
-            Ok(())
-        } else {
-            let address = Address(self.1, self.2);
+        let (op, p, part) = (self.0, self.1, self.2);
+        let has_address = op.needs_address() || p.sign == Sign::Minus || p.address != 0;
+        if has_address || p.index != 0 || !matches!(part, FPart::Normal) {
+            let address = Address(p, part);
             write!(f, " {address}")
+        } else {
+            Ok(())
         }
     }
 }

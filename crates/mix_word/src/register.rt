@@ -1,7 +1,6 @@
 //! The registers (1.3.1).
 ghost use Rattle.std.specs.Prelude.{◌≡◌, ◌<◌, ◌↔◌, Some, slice_get};
 ghost use Rattle.std.specs.List.{find};
-ghost use Rattle.std.specs.Str.{bytes_eq};
 ghost use Rattle.mix_word.specs.Prelude.{Reg, all_registers, number_of_register, name_of_register, register_named, reg_of, offset_of};
 
 /// A register: rA and rX of five bytes, rI1 to rI6 and rJ of two (1.3.1).

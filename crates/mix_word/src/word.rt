@@ -1,6 +1,6 @@
 //! A word: a sign and five bytes of 0 to 63 (1.3.1).
 ghost use Rattle.std.specs.Prelude.{◌≡◌, ◌<◌, ◌≤◌, ◌/◌, ◌%◌, ◌^◌, IfSome, pos, unsigned_abs};
-ghost use Rattle.mix_word.specs.Word.{word, zero_word, is_same_word, byte_of, negation_of, number_of, natural_of, word_of_number, parts_of, word_of_parts, opposite};
+ghost use Rattle.mix_word.specs.Word.{word, is_same_word, byte_of, negation_of, number_of, natural_of, word_of_number, parts_of, word_of_parts, opposite};
 
 use std::marker::Model;
 

@@ -5,7 +5,7 @@ use Rattle.mixal_text.specs.Prelude.{NamesValue, ◌>>=◌}
 use Rattle.mixal_text.specs.declared.label.Label.{Label}
 use Rattle.mixal_text.specs.declared.label.Label.TheVariants as label
 use Rattle.mixal_asm.specs.declared.key.Key.{Key}
-use Rattle.mixal_text.specs.Address.{APartValue, Value, Name, Ahead, Literal}
+use Rattle.mixal_text.specs.Address.{APartValue, Name, Literal}
 use Rattle.mixal_asm.specs.declared.key.Key.TheVariants as key
 use Rattle.mixal_asm.specs.declared.words.Emitted.{Emitted}
 use Rattle.mixal_asm.specs.declared.scope.OwnLocal.{OwnLocal}
@@ -51,10 +51,8 @@ own_local names (Some (label.Local d)) = Some (record { digit = d; back = back_o
 
 -- what an A-part waits for has no value: a symbol by what was read, and a literal since none has its place yet
 abbrev pub IsDue : NamesSoFar → APartValue → Type 0
-IsDue names (Value word) = Unit {0}
 IsDue names (Name symbol) = value_of names (key.Name symbol) ≡ None
-IsDue names (Ahead d) = Unit {0}
-IsDue names (Literal text) = Unit {0}
+IsDue names _ = Unit {0}
 
 abbrev pub HasNoLiteral : NamesSoFar → Type 0
 HasNoLiteral names = (j : ℕ) → value_of names (key.Literal j) ≡ None

@@ -6,7 +6,7 @@ use Rattle.mixal_text.specs.declared.fault.TextFault.{TextFault}
 use Rattle.mixal_text.specs.declared.label.Label.{Label}
 use Rattle.mixal_text.specs.declared.op.Mnemonic.{Mnemonic}
 use Rattle.mixal_text.specs.Line.{LineValue, Code, loc_of_line, op_of_line}
-use Rattle.mixal_text.specs.declared.op.Mnemonic.TheVariants.{Machine, Equ, Orig, Con, Alf, End}
+use Rattle.mixal_text.specs.declared.op.Mnemonic.TheVariants.{Equ, Orig, Con, End}
 use Rattle.mixal_text.specs.declared.op.Op.TheVariants as op
 use Rattle.mixal_asm.specs.declared.fault.AsmKind.{AsmKind}
 use Rattle.mixal_asm.specs.declared.fault.AsmKind.TheVariants.{NoEnd, SourceTooLong}
@@ -25,13 +25,10 @@ kept_loc names (Err fault) = None
 
 -- a line that keeps what its OP is for, and that has no fault of its own: a word, a value, a location or the end
 abbrev pub plain_line : Option Label → Result Mnemonic TextFault → LineValue
-plain_line loc (Ok (Machine operation)) = Code loc op.Con (codes "0")
 plain_line loc (Ok Equ) = Code loc op.Equ (codes "0")
 plain_line loc (Ok Orig) = Code loc op.Orig (codes "*")
-plain_line loc (Ok Con) = Code loc op.Con (codes "0")
-plain_line loc (Ok Alf) = Code loc op.Con (codes "0")
 plain_line loc (Ok End) = Code loc op.End (codes "0")
-plain_line loc (Err fault) = Code loc op.Con (codes "0")
+plain_line loc _ = Code loc op.Con (codes "0")
 
 abbrev pub mended_line : NamesSoFar → List ℕ → LineValue
 mended_line names text = plain_line (kept_loc names (loc_of_line text)) (op_of_line text)

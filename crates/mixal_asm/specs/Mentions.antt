@@ -1,5 +1,5 @@
 -- All that the lines of a source mention (1.3.2): each name where LOC defines it, and where ADDRESS uses it.
-use Rattle.std.specs.Prelude.{ℕ, ◌+◌, ◌-◌, ◌==◌, ◌&&◌, nat_lt, not, Bool, true, false, List, [], ◌∷◌, ◌++◌, length, take, drop, map, slice_index, Option, Some, None, Result, Ok, Err, if◌then◌else◌}
+use Rattle.std.specs.Prelude.{ℕ, ◌+◌, ◌-◌, ◌==◌, ◌&&◌, nat_lt, not, Bool, true, false, List, [], ◌∷◌, ◌++◌, length, take, drop, map, slice_index, Option, Some, None, Result, Ok, if◌then◌else◌}
 use Rattle.std.specs.List.{count_by, slice_split}
 use Rattle.mix_lines.specs.Lines.{lines, is_comment}
 use Rattle.mixal_text.specs.Prelude.{is_other, op_of_line, local_of, part_span, symbol_of}
@@ -11,7 +11,7 @@ use Rattle.mixal_text.specs.declared.local.Direction.{Direction}
 use Rattle.mixal_text.specs.declared.local.Direction.TheVariants.{Here, Backward, Forward}
 use Rattle.mixal_text.specs.declared.local.Local.{Local as LocalSymbol}
 use Rattle.mixal_text.specs.declared.misread.Span.{Span}
-use Rattle.mixal_text.specs.declared.op.Mnemonic.TheVariants.{Machine, Equ, Orig, Con, Alf, End}
+use Rattle.mixal_text.specs.declared.op.Mnemonic.TheVariants.{Alf}
 use Rattle.mixal_text.specs.declared.parts.Part.TheVariants as part
 use Rattle.mixal_asm.specs.declared.mentioned.Mention.{Mention}
 use Rattle.mixal_asm.specs.declared.mentioned.Name.{Name}
@@ -73,13 +73,8 @@ uses_from before after n from (run ∷ more) =
     ++ uses_from before after n (from + length run + 1) more
 
 abbrev pub is_alf : Result Mnemonic TextFault → Bool
-is_alf (Ok (Machine operation)) = false
-is_alf (Ok Equ) = false
-is_alf (Ok Orig) = false
-is_alf (Ok Con) = false
 is_alf (Ok Alf) = true
-is_alf (Ok End) = false
-is_alf (Err fault) = false
+is_alf _ = false
 
 -- a comment has no ADDRESS, and that of ALF are characters
 abbrev pub has_names : List ℕ → Bool

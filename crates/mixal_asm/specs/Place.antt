@@ -23,14 +23,8 @@ location_part code = part.Operation
 
 -- the line that a fault of a line is about: what END meets is at fault where it is used
 abbrev pub kind_line_number : ℕ → AsmKind → ℕ
-kind_line_number n (Text m) = n
 kind_line_number n (Inserted line m) = line
-kind_line_number n DefinedTwice = n
-kind_line_number n AddressTooLarge = n
-kind_line_number n LocationOutOfRange = n
-kind_line_number n NoEnd = n
-kind_line_number n StartOutOfRange = n
-kind_line_number n SourceTooLong = n
+kind_line_number n _ = n
 
 -- the bytes of that line, if it is about some
 abbrev pub kind_span : List ℕ → AsmKind → Option Span

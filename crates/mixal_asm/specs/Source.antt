@@ -10,21 +10,19 @@ use Rattle.mixal_text.specs.declared.misread.Misread.{Misread}
 use Rattle.mixal_text.specs.declared.label.Label.{Label}
 use Rattle.mixal_text.specs.declared.label.Label.TheVariants as label
 use Rattle.mixal_text.specs.declared.op.Op.{Op}
-use Rattle.mixal_text.specs.declared.op.Op.TheVariants.{Machine, Equ, Orig, Con, Alf, End}
+use Rattle.mixal_text.specs.declared.op.Op.TheVariants.{Machine}
 use Rattle.mixal_text.specs.Line.{LineValue, Remark, Code, line_of}
 use Rattle.mixal_asm.specs.declared.key.Key.{Key}
 use Rattle.mixal_asm.specs.declared.key.Key.TheVariants.{Name, Local, Literal}
 use Rattle.mixal_asm.specs.declared.row.Shows.{Shows}
-use Rattle.mixal_asm.specs.declared.row.Shows.TheVariants.{Nothing, Value, Word, Start}
+use Rattle.mixal_asm.specs.declared.row.Shows.TheVariants.{Word}
 use Rattle.mixal_asm.specs.PassOne.{NamesSoFar, SourceValue, Line, OfLiteral, OfName, RowValue}
 use Rattle.mixal_asm.specs.Program.{ProgramValue}
 
 -- the place of the word that a row shows, by the words with their places
 abbrev pub place_of : List (ℕ × WordValue) → Shows → Option ℕ
-place_of words Nothing = None
-place_of words (Value value) = None
 place_of words (Word i) = option_map (λ word. word.0) (slice_get words i)
-place_of words Start = None
+place_of words _ = None
 
 -- ---- of a place its line: that of the last word there
 
@@ -51,11 +49,7 @@ word_at program place = last_or None (filter_map (word_in place) program.words)
 
 abbrev pub is_machine : Op → Bool
 is_machine (Machine code f) = true
-is_machine Equ = false
-is_machine Orig = false
-is_machine Con = false
-is_machine (Alf word) = false
-is_machine End = false
+is_machine _ = false
 
 -- what a line says, if it is an instruction: a remark is none, and neither is a line with a fault
 abbrev pub says_instruction : LineValue → Bool

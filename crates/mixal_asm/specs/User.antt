@@ -17,10 +17,8 @@ first_wait name emitted = position (λ word. waits_for name word.awaits) emitted
 
 -- whether a row shows the word of this number
 abbrev pub shows_word : ℕ → Shows → Bool
-shows_word i shows.Nothing = false
-shows_word i (shows.Value value) = false
 shows_word i (shows.Word n) = n == i
-shows_word i shows.Start = false
+shows_word i _ = false
 
 -- the number and the text of a line of the source
 abbrev pub numbered : SourceValue → Option (ℕ × List ℕ)

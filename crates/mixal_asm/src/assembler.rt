@@ -1,5 +1,5 @@
 //! The assembler, one line at a time (1.3.2).
-ghost use Rattle.std.specs.Prelude.{◌≡◌, ◌<◌, length, true, false, Ok, Err, IfOk};
+ghost use Rattle.std.specs.Prelude.{◌≡◌, ◌<◌, length, Ok, Err, IfOk};
 ghost use Rattle.mix_refused.specs.Refused.{IfFault};
 ghost use Rattle.mixal_text.specs.Line.{HasBytes, value_of_line};
 ghost use Rattle.mixal_asm.specs.Prelude.{at_first, number_after, kind_span};

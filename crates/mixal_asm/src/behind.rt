@@ -1,7 +1,7 @@
 //! What stands behind END, which is not read (1.3.2).
 ghost use Rattle.std.specs.Prelude.{◌≡◌, ◌<◌, ◌≤◌, ◌+◌, ◌++◌, ◌∷◌, [], length, IfSome, MatchOption, OnOk};
 ghost use Rattle.mix_lines.specs.Lines.{lines};
-ghost use Rattle.mixal_asm.specs.Diagnose.{after_end_from, behind_from, is_marker};
+ghost use Rattle.mixal_asm.specs.Diagnose.{after_end_from, behind_from};
 
 use crate::diagnosis::push_warning;
 use crate::diagnostic::{Diagnostic, Warning};
@@ -35,7 +35,7 @@ fn add_behind(list: &mut Vec<Diagnostic>, first: u32, text: &[u8]) -> Result<(),
     let mut number = first;
     let mut rest = text;
     while let Some((line, after)) = first_line(rest) {
-        if is_marker(line) {
+        if matches!(line, [b'%', ..]) {
             return Ok(());
         }
         if Survey::of(line).is_code() {
@@ -58,11 +58,4 @@ fn first_line(text: &[u8]) -> Option<(&[u8], &[u8])>
         return None;
     }
     Some(split_line(text))
-}
-
-// Whether a line begins as the markers of a bundle do.
-fn is_marker(line: &[u8]) -> bool
-    ensures { result ≡ is_marker line.now }
-{
-    matches!(line, [b'%', ..])
 }

@@ -1,8 +1,8 @@
 //! A line of the source by its OP (1.3.2).
-ghost use Rattle.std.specs.Prelude.{◌≡◌, ◌<◌, nat_le, true, false, length, Ok, Err, OnOk, IfOk};
+ghost use Rattle.std.specs.Prelude.{◌≡◌, ◌<◌, nat_le, false, length, Ok, Err, OnOk, IfOk};
 ghost use Rattle.mix_refused.specs.Refused.{IfFault};
 ghost use Rattle.mixal_text.specs.Line.{IsOfBytes};
-ghost use Rattle.mixal_asm.specs.PassOne.{is_taken, is_defined, with_line, number_after};
+ghost use Rattle.mixal_asm.specs.PassOne.{is_taken, with_line, number_after};
 ghost use Rattle.mixal_asm.specs.declared.row.Shows.TheVariants.{Nothing};
 ghost use Rattle.mixal_asm.specs.Assembly.{max_lines, answer_of_op, waiting_in};
 

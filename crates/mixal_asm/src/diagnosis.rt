@@ -2,8 +2,7 @@
 ghost use Rattle.std.specs.Prelude.{◌≡◌, ◌≤◌, ◌++◌, length, position, IfOk, OnOk};
 ghost use Rattle.std.specs.List.{position_or_len};
 ghost use Rattle.mix_lines.specs.Lines.{lines};
-ghost use Rattle.mixal_asm.specs.Diagnose.{all_slips, diagnostics_of, first_line, goes_after, is_warning, line_warnings, slips_at, undefined_at, up_to_end, warning_at, warnings_from, warnings_of, warnings_up_to_end, with_fault, with_faults};
-ghost use Rattle.mixal_asm.specs.Source.{is_that};
+ghost use Rattle.mixal_asm.specs.Diagnose.{all_slips, diagnostics_of, goes_after, line_warnings, slips_at, undefined_at, up_to_end, warning_at, warnings_from, warnings_of, warnings_up_to_end, with_fault, with_faults};
 
 use crate::behind::add_after_end;
 use crate::diagnostic::{Diagnostic, Finding, Warning, warning_part};
@@ -77,13 +76,7 @@ fn goes_after(fault: AsmFault, other: &Diagnostic) -> bool
     ensures { result ≡ goes_after fault other.now }
 {
     let line = fault.line_about();
-    line < other.line || (line == other.line && is_warning(&other.finding))
-}
-
-fn is_warning(finding: &Finding) -> bool
-    ensures { result ≡ is_warning finding.now }
-{
-    matches!(finding, Finding::Warning(_))
+    line < other.line || (line == other.line && matches!(other.finding, Finding::Warning(_)))
 }
 
 // The warnings of a source. One of too many bytes is not looked at.
@@ -189,23 +182,13 @@ fn add_undefined(
     ensures { OnOk result (list.new.items ≡ list.old.items ++ undefined_at uses.now.entries definitions.now.entries number line.now used) }
 {
     match used {
-        Some(symbol) => {
-            if is_first(uses, &symbol, number) && !definitions.contains_key(&symbol) {
-                push_warning(list, number, line, Warning::UndefinedSymbol(symbol))?;
+        Some(symbol) => match uses.get(&symbol) {
+            Some(first) if *first == number && !definitions.contains_key(&symbol) => {
+                push_warning(list, number, line, Warning::UndefinedSymbol(symbol))
             }
-            Ok(())
-        }
+            _ => Ok(()),
+        },
         None => Ok(()),
-    }
-}
-
-// Whether a line is the first one that uses a symbol.
-fn is_first(uses: &IndexMap<Symbol, u32>, symbol: &Symbol, number: u32) -> bool
-    ensures { result ≡ is_that number (first_line uses.now.entries symbol.now) }
-{
-    match uses.get(symbol) {
-        Some(first) => *first == number,
-        None => false,
     }
 }
 

@@ -1,7 +1,7 @@
 //! What there is to say of a source: a fault, or a warning of what is allowed and hardly meant.
 ghost use Rattle.std.specs.Prelude.{◌≡◌};
-ghost use Rattle.mixal_asm.specs.Place.{slip_part, warning_part};
-ghost use Rattle.mixal_asm.specs.Diagnose.{slip_name, slip_text, warning_name, warning_subject, warning_text};
+ghost use Rattle.mixal_asm.specs.Place.{warning_part};
+ghost use Rattle.mixal_asm.specs.Diagnose.{warning_name, warning_subject, warning_text};
 
 use crate::fault::AsmKind;
 use mixal_text::{Part, Slip, Span, Symbol};
@@ -40,7 +40,17 @@ impl Warning {
     {
         match self {
             Warning::UndefinedSymbol(_) => "undefined-symbol",
-            Warning::Slip(slip) => slip_name(*slip),
+            Warning::Slip(slip) => match slip {
+                Slip::OperationAsLabel => "operation-as-label",
+                Slip::NoLabel => "no-label",
+                Slip::AlfCut => "alf-cut",
+                Slip::AlfShort => "alf-short",
+                Slip::BlankInAddress => "blank-in-address",
+                Slip::NoField => "no-field",
+                Slip::WrongUnit => "wrong-unit",
+                Slip::NoCell => "no-cell",
+                Slip::NegativeShift => "negative-shift",
+            },
             Warning::BehindEnd => "behind-end",
         }
     }
@@ -61,7 +71,25 @@ impl Warning {
     {
         match self {
             Warning::UndefinedSymbol(_) => " is defined nowhere: END makes a cell of 0 for it",
-            Warning::Slip(slip) => slip_text(*slip),
+            Warning::Slip(slip) => match slip {
+                Slip::OperationAsLabel => {
+                    "the label is the name of an operation: if that is meant, begin the line with a blank"
+                }
+                Slip::NoLabel => "EQU without a label defines nothing",
+                Slip::AlfCut => {
+                    "ALF takes five characters, and its text has more of them, or begins later"
+                }
+                Slip::AlfShort => "ALF takes five characters: what is missing becomes blanks",
+                Slip::BlankInAddress => "a blank ends the address: what follows is a remark",
+                Slip::NoField => "the operation takes no such F: the machine will refuse the step",
+                Slip::WrongUnit => "the unit cannot do this: the machine will refuse the step",
+                Slip::NoCell => {
+                    "the cells are 0 to 3999: the machine will refuse the step, or the jump"
+                }
+                Slip::NegativeShift => {
+                    "a shift by a negative number: the machine will refuse the step"
+                }
+            },
             Warning::BehindEnd => "this stands behind END and is not read",
         }
     }
@@ -73,53 +101,13 @@ pub(crate) fn warning_part(warning: &Warning) -> Part
 {
     match warning {
         Warning::UndefinedSymbol(_) => Part::APart,
-        Warning::Slip(slip) => slip_part(*slip),
+        Warning::Slip(slip) => match slip {
+            Slip::OperationAsLabel => Part::Label,
+            Slip::NoLabel => Part::Operation,
+            Slip::AlfCut | Slip::AlfShort | Slip::BlankInAddress => Part::Address,
+            Slip::NoField | Slip::WrongUnit => Part::FPart,
+            Slip::NoCell | Slip::NegativeShift => Part::APart,
+        },
         Warning::BehindEnd => Part::Statement,
-    }
-}
-
-fn slip_part(slip: Slip) -> Part
-    ensures { result ≡ slip_part slip }
-{
-    match slip {
-        Slip::OperationAsLabel => Part::Label,
-        Slip::NoLabel => Part::Operation,
-        Slip::AlfCut | Slip::AlfShort | Slip::BlankInAddress => Part::Address,
-        Slip::NoField | Slip::WrongUnit => Part::FPart,
-        Slip::NoCell | Slip::NegativeShift => Part::APart,
-    }
-}
-
-fn slip_name(slip: Slip) -> &'static str
-    ensures { result.now ≡ slip_name slip }
-{
-    match slip {
-        Slip::OperationAsLabel => "operation-as-label",
-        Slip::NoLabel => "no-label",
-        Slip::AlfCut => "alf-cut",
-        Slip::AlfShort => "alf-short",
-        Slip::BlankInAddress => "blank-in-address",
-        Slip::NoField => "no-field",
-        Slip::WrongUnit => "wrong-unit",
-        Slip::NoCell => "no-cell",
-        Slip::NegativeShift => "negative-shift",
-    }
-}
-
-fn slip_text(slip: Slip) -> &'static str
-    ensures { result.now ≡ slip_text slip }
-{
-    match slip {
-        Slip::OperationAsLabel => {
-            "the label is the name of an operation: if that is meant, begin the line with a blank"
-        }
-        Slip::NoLabel => "EQU without a label defines nothing",
-        Slip::AlfCut => "ALF takes five characters, and its text has more of them, or begins later",
-        Slip::AlfShort => "ALF takes five characters: what is missing becomes blanks",
-        Slip::BlankInAddress => "a blank ends the address: what follows is a remark",
-        Slip::NoField => "the operation takes no such F: the machine will refuse the step",
-        Slip::WrongUnit => "the unit cannot do this: the machine will refuse the step",
-        Slip::NoCell => "the cells are 0 to 3999: the machine will refuse the step, or the jump",
-        Slip::NegativeShift => "a shift by a negative number: the machine will refuse the step",
     }
 }

@@ -1,15 +1,14 @@
 //! END (1.3.2): its LOC, its ADDRESS, and the program.
-ghost use Rattle.std.specs.Prelude.{◌≡◌, ◌<◌, slice_get, false, length, Ok, Err, OnOk, IfOk, MatchResult};
+ghost use Rattle.std.specs.Prelude.{◌≡◌, ◌<◌, slice_get, false, length, Ok, Err, IfOk, MatchResult};
 ghost use Rattle.mix_word.specs.Word.{plus};
 ghost use Rattle.mix_refused.specs.Refused.{IfFault};
 ghost use Rattle.mixal_asm.specs.PassOne.{is_taken};
-ghost use Rattle.mixal_asm.specs.Assembly.{is_unmet, is_label, first_unmet, met, program_at, end_value, start_of, first_uses, inserted, ended, end_line};
+ghost use Rattle.mixal_asm.specs.Assembly.{is_unmet, first_unmet, met, program_at, end_value, start_of, first_uses, inserted, ended, end_line};
 
 use crate::draft::Draft;
 use crate::fault::AsmKind;
 use crate::index::Index;
 use crate::key::Key;
-use crate::names::NameTable;
 use crate::program::Program;
 use crate::row::{Shows, Source};
 use crate::scope::OwnLocal;
@@ -25,26 +24,6 @@ fn start_of(value: Word) -> Result<Place, AsmKind>
     match Place::of((value.magnitude() % 4096) as u16) {
         Some(start) => Ok(start),
         None => Err(AsmKind::StartOutOfRange),
-    }
-}
-
-// Whether a name is this LOC.
-fn is_label(names: &NameTable, loc: &Option<Label>, name: &Key) -> bool
-    ensures { result ≡ is_label names.now loc.now name.now }
-{
-    match loc {
-        Some(loc) => names.name_of(loc) == *name,
-        None => false,
-    }
-}
-
-// Whether a name is a dF that no dH meets, that of END included.
-fn is_unmet(names: &NameTable, loc: &Option<Label>, name: &Key) -> bool
-    ensures { result ≡ is_unmet names.now loc.now name.now }
-{
-    match name {
-        Key::Local(..) => names.value(name).is_none() && !is_label(names, loc, name),
-        Key::Name(_) | Key::Literal(_) => false,
     }
 }
 
@@ -138,8 +117,11 @@ impl<'s> Draft<'s> {
         ensures { result ≡ passes (is_unmet self.now.names loc.now) (slice_get (first_uses self.now.emitted) i) }
     {
         match self.words.use_at(i) {
-            Some(name) => is_unmet(&self.names, loc, name),
-            None => false,
+            Some(name @ Key::Local(..)) if self.names.value(name).is_none() => match loc {
+                Some(loc) => self.names.name_of(loc) != *name,
+                None => true,
+            },
+            _ => false,
         }
     }
 

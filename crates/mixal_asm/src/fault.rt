@@ -2,10 +2,10 @@
 ghost use Rattle.std.specs.Prelude.{◌≡◌, Some};
 ghost use Rattle.mix_refused.specs.declared.refused.Refused.TheVariants.{Fault};
 ghost use Rattle.mixal_asm.specs.Fault.{kind_number, kind_text, kind_line, asm_fault_line};
-ghost use Rattle.mixal_asm.specs.Place.{kind_line_number, kind_span, location_part};
+ghost use Rattle.mixal_asm.specs.Place.{kind_line_number, kind_span};
 
 use mix_refused::Refused;
-use mixal_text::{Misread, Mnemonic, Part, Span, TextFault, line_op, part_span};
+use mixal_text::{Misread, Mnemonic, Part, Span, line_op, part_span};
 use std::fmt;
 
 /// Why a source is refused (1.3.2), in the order of the numbers, but for those of a line's text, which come first here.
@@ -93,11 +93,19 @@ impl AsmFault {
     pub(crate) fn of(line: u32, text: &[u8], kind: AsmKind) -> AsmFault
         ensures { result ≡ record { line = line; at = kind_span text.now kind; kind = kind } }
     {
-        AsmFault {
-            line,
-            at: kind_span(text, kind),
-            kind,
-        }
+        let at = match kind {
+            AsmKind::Text(misread) | AsmKind::Inserted { misread, .. } => Some(misread.at),
+            AsmKind::DefinedTwice => Some(part_span(text, Part::Label)),
+            AsmKind::AddressTooLarge | AsmKind::StartOutOfRange => {
+                Some(part_span(text, Part::Address))
+            }
+            AsmKind::LocationOutOfRange => match line_op(text) {
+                Ok(Mnemonic::Orig) => Some(part_span(text, Part::Address)),
+                _ => Some(part_span(text, Part::Operation)),
+            },
+            AsmKind::NoEnd | AsmKind::SourceTooLong => None,
+        };
+        AsmFault { line, at, kind }
     }
 
     /// The line that it is about: its own, or of what END meets that which uses it first.
@@ -108,28 +116,6 @@ impl AsmFault {
             AsmKind::Inserted { line, .. } => line,
             _ => self.line,
         }
-    }
-}
-
-// The bytes of the line that a fault is about, if it is about some.
-fn kind_span(line: &[u8], kind: AsmKind) -> Option<Span>
-    ensures { result ≡ kind_span line.now kind }
-{
-    match kind {
-        AsmKind::Text(misread) | AsmKind::Inserted { misread, .. } => Some(misread.at),
-        AsmKind::DefinedTwice => Some(part_span(line, Part::Label)),
-        AsmKind::AddressTooLarge | AsmKind::StartOutOfRange => Some(part_span(line, Part::Address)),
-        AsmKind::LocationOutOfRange => Some(part_span(line, location_part(line_op(line)))),
-        AsmKind::NoEnd | AsmKind::SourceTooLong => None,
-    }
-}
-
-fn location_part(op: Result<Mnemonic, TextFault>) -> Part
-    ensures { result ≡ location_part op }
-{
-    match op {
-        Ok(Mnemonic::Orig) => Part::Address,
-        _ => Part::Operation,
     }
 }
 

@@ -1,6 +1,5 @@
 //! All faults of a source (1.3.2).
-ghost use Rattle.std.specs.Prelude.{◌≡◌, [], ◌==◌, ◌&&◌, ◌<◌, ◌≤◌, length, Ok, Err, IfOk, OnOk};
-ghost use Rattle.std.specs.List.{list_any};
+ghost use Rattle.std.specs.Prelude.{◌≡◌, [], Ok, Err, IfOk};
 ghost use Rattle.mix_refused.specs.Refused.{IfFault};
 ghost use Rattle.mix_lines.specs.Lines.{lines};
 ghost use Rattle.mixal_asm.specs.Prelude.{at_first, program_at, IsReady};
@@ -67,13 +66,8 @@ fn next_fault(alloc: Global, text: &[u8], told: &[AsmFault]) -> Result<Option<As
     let mut draft = Draft::new(alloc);
     match add_lines_with(&mut draft, told, text) {
         Ok(_) => Ok(None),
-        Err(Refused::Fault(fault)) => {
-            if is_told(told, fault) {
-                Ok(None)
-            } else {
-                Ok(Some(fault))
-            }
-        }
+        Err(Refused::Fault(fault)) if is_told(told, fault) => Ok(None),
+        Err(Refused::Fault(fault)) => Ok(Some(fault)),
         Err(Refused::Memory) => Err(Memory),
     }
 }

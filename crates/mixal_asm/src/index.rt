@@ -5,9 +5,9 @@ ghost use Rattle.std.specs.List.Sorted.{IsNonDecreasingBy};
 ghost use Rattle.std.specs.Map.{lookup};
 ghost use Rattle.std.specs.Option.{option_map};
 ghost use Rattle.std.specs.Str.{bytes_eq};
-ghost use Rattle.mixal_text.specs.Line.{line_of, value_of_line};
+ghost use Rattle.mixal_text.specs.Line.{line_of};
 ghost use Rattle.mixal_asm.specs.Row.{row_value, source_value};
-ghost use Rattle.mixal_asm.specs.Source.{place_of, source_in, word_in, symbol_of_loc, symbol_of_line, symbol_of_read, definition_in};
+ghost use Rattle.mixal_asm.specs.Source.{place_of, source_in, word_in, symbol_of_loc, symbol_of_read, definition_in};
 ghost use Rattle.mixal_asm.specs.Index.{LeadsToLast, cell_of, is_later, place_from, IsFirstFrom, HasDefinitions, IsIndexed};
 
 use crate::row::{Row, Shows, Source};
@@ -215,17 +215,8 @@ fn symbol_in(text: &[u8]) -> Option<Symbol>
     ensures { result ≡ symbol_of_read (line_of text.now) }
 {
     match read_line(text) {
-        Ok(line) => symbol_of_line(line),
-        Err(_) => None,
-    }
-}
-
-fn symbol_of_line(line: Line<'_>) -> Option<Symbol>
-    ensures { result ≡ symbol_of_line (value_of_line line.entry) }
-{
-    match line {
-        Line::Code { loc, .. } => symbol_of_loc(loc),
-        Line::Remark => None,
+        Ok(Line::Code { loc, .. }) => symbol_of_loc(loc),
+        Ok(Line::Remark) | Err(_) => None,
     }
 }
 

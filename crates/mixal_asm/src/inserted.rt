@@ -1,10 +1,10 @@
 //! The lines that are inserted before END (1.3.2): the literals, and the symbols that no LOC defines.
-ghost use Rattle.std.specs.Prelude.{◌≡◌, ℕ, List, ◌+◌, ◌<◌, drop, ◌||◌, [], ◌∷◌, ◌++◌, length, false, slice_get, option_copied, Some, None, Ok, Err, OnOk};
+ghost use Rattle.std.specs.Prelude.{◌≡◌, ℕ, List, ◌+◌, ◌<◌, drop, ◌||◌, [], ◌∷◌, ◌++◌, false, slice_get, option_copied, Some, None, Ok, Err, OnOk};
 ghost use Rattle.mix_refused.specs.Refused.{IfFault};
 ghost use Rattle.mix_word.specs.Word.{plus};
 ghost use Rattle.mixal_asm.specs.declared.key.Key.TheVariants.{Name, Literal};
 ghost use Rattle.mixal_asm.specs.PassOne.{value_of, is_defined, is_taken};
-ghost use Rattle.mixal_asm.specs.Assembly.{literal_line, literal_lines, zero_line, zero_line_for, zero_lines, is_own, first_uses, inserted};
+ghost use Rattle.mixal_asm.specs.Assembly.{literal_line, literal_lines, zero_line, zero_line_for, zero_lines, is_own, first_uses};
 
 use crate::draft::Draft;
 use crate::fault::AsmKind;

@@ -3,7 +3,7 @@ ghost use Rattle.std.specs.Prelude.{◌≡◌, ◌<◌, ◌-◌, ◌^◌, ◌++�
 ghost use Rattle.std.specs.Io.KnownBytes.{Appends, Keeps};
 ghost use Rattle.mix_stream.specs.Stream.{AppendsFront, CountsFailure};
 ghost use Rattle.mixal_asm.specs.Prelude.{Line, row_value, source_value};
-ghost use Rattle.mixal_asm.specs.Listing.{blanks, shown_text, source_text, row_text, rows_text, symbols_line, symbol_text, name_text, names_text, symbols_text, listing, IsFault};
+ghost use Rattle.mixal_asm.specs.Listing.{blanks, shown_text, source_text, row_text, rows_text, symbol_text, names_text, symbols_text, listing, IsFault};
 
 use crate::key::Key;
 use crate::names::NameTable;
@@ -22,6 +22,7 @@ const SYMBOL_PLACES: usize = 10;
 impl Program {
     /// Writes the listing (1.3.2). Out of memory, nothing is written; where a write fails, a beginning of the listing is
     /// written.
+    #[tactic(auto, unfolding(crate::specs::Listing::listing))]
     pub fn write_listing<W: Out>(&self, alloc: Global, out: &mut W) -> Result<(), Refused<Failed>>
         requires { W.failed out.old < 2 ^ 64 - 1 }
         ensures written { OnOk result (Appends (W.told out.old) (W.told out.new) (listing self.now)) }
@@ -29,7 +30,9 @@ impl Program {
         ensures memory { result ≡ Err Refused.Memory → Keeps (W.told out.old) (W.told out.new) }
         ensures failed { CountsFailure (IsFault result) (W.failed out.old) (W.failed out.new) }
     {
-        let text = listing_of(alloc, self)?;
+        let mut text = Vec::new(alloc);
+        add_rows(alloc, &mut text, self)?;
+        add_symbols(alloc, &mut text, &self.names)?;
         match write_all(out, text.as_slice()) {
             Ok(()) => Ok(()),
             Err(failed) => Err(Refused::Fault(failed)),
@@ -48,23 +51,14 @@ impl Program {
     }
 }
 
-// The whole listing.
-#[tactic(auto, unfolding(crate::specs::Listing::listing))]
-fn listing_of(alloc: Global, program: &Program) -> Result<Vec<u8>, Memory>
-    ensures { IfOk result (λ text. text.items ≡ listing program.now) }
-{
-    let mut text = Vec::new(alloc);
-    add_rows(alloc, &mut text, program)?;
-    add_symbols(alloc, &mut text, &program.names)?;
-    Ok(text)
-}
-
 // How many symbols there are, and each of them with its value.
 #[tactic(auto, unfolding(crate::specs::Listing::symbols_text))]
 fn add_symbols(alloc: Global, text: &mut Vec<u8>, names: &NameTable) -> Result<(), Memory>
     ensures { OnOk result (text.new.items ≡ text.old.items ++ symbols_text names.now) }
 {
-    add_count(alloc, text, names)?;
+    let count = names.symbols();
+    let line = format!(in alloc; "symbols {count}\n")?;
+    text.extend_from_slice(line.as_bytes())?;
     add_names(alloc, text, names)?;
     Ok(())
 }
@@ -120,32 +114,16 @@ fn add_line(alloc: Global, text: &mut Vec<u8>, number: u32, line: &[u8]) -> Resu
     Ok(())
 }
 
-// The line that says how many symbols there are.
-fn add_count(alloc: Global, text: &mut Vec<u8>, names: &NameTable) -> Result<(), Memory>
-    ensures { OnOk result (text.new.items ≡ text.old.items ++ symbols_line names.now) }
-{
-    let count = names.symbols();
-    let line = format!(in alloc; "symbols {count}\n")?;
-    text.extend_from_slice(line.as_bytes())?;
-    Ok(())
-}
-
 fn add_names(alloc: Global, text: &mut Vec<u8>, names: &NameTable) -> Result<(), Memory>
     ensures { OnOk result (text.new.items ≡ text.old.items ++ names_text names.now) }
 {
     for (key, value) in names.iter() {
-        add_name(alloc, text, key, *value)?;
+        match key {
+            Key::Name(symbol) => add_symbol(alloc, text, symbol, *value)?,
+            Key::Local(..) | Key::Literal(_) => {}
+        }
     }
     Ok(())
-}
-
-fn add_name(alloc: Global, text: &mut Vec<u8>, key: &Key, value: Word) -> Result<(), Memory>
-    ensures { OnOk result (text.new.items ≡ text.old.items ++ name_text key.now value) }
-{
-    match key {
-        Key::Name(symbol) => add_symbol(alloc, text, symbol, value),
-        Key::Local(..) | Key::Literal(_) => Ok(()),
-    }
 }
 
 #[tactic(auto, unfolding(crate::specs::Listing::symbol_text))]

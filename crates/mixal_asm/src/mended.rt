@@ -1,11 +1,10 @@
 //! What stands in the place of a line that was refused (1.3.2).
 ghost use Rattle.std.specs.Prelude.{◌≡◌, ◌==◌, Ok, Err, IfOk};
-ghost use Rattle.std.specs.List.{list_any};
 ghost use Rattle.mix_refused.specs.Refused.{IfFault};
 ghost use Rattle.mixal_text.specs.Line.{HasBytes, loc_of_line, value_of_line};
 ghost use Rattle.mixal_asm.specs.Prelude.{number_after, kind_span};
 ghost use Rattle.mixal_asm.specs.Draft.{HasNoLiteral, IsReady, WaitsFor, answer_at};
-ghost use Rattle.mixal_asm.specs.Faults.{kept_loc, plain_line, mended_line, mended_answer, is_mended, answer_with};
+ghost use Rattle.mixal_asm.specs.Faults.{kept_loc, plain_line, mended_answer, is_mended, answer_with};
 
 use crate::assembler::{answer, answer_line};
 use crate::draft::Draft;
@@ -75,16 +74,8 @@ fn mended_answer<'s>(
     if draft.is_full() {
         return Err(Refused::Fault(AsmKind::SourceTooLong));
     }
-    let line = mended_line(draft, text);
+    let line = plain_line(kept_loc(draft, text), line_op(text));
     answer_line(draft, text, line)
-}
-
-// The line that stands in the place of one that was refused.
-fn mended_line<'a>(draft: &Draft<'_>, text: &[u8]) -> Line<'a>
-    ensures line { value_of_line result ≡ mended_line draft.now.names text.now }
-    ensures bytes { HasBytes result }
-{
-    plain_line(kept_loc(draft, text), line_op(text))
 }
 
 // Its LOC, if no line before has defined that.

@@ -2,9 +2,9 @@
 ghost use Rattle.std.specs.Prelude.{◌≡◌, ◌≤◌, ◌<◌, ◌+◌, ◌^◌, ◌-◌, ℕ, List, [], ◌∷◌, ◌++◌, length, slice_index, IfOk, OnOk};
 ghost use Rattle.std.specs.List.{slice_split};
 ghost use Rattle.mix_lines.specs.Lines.{lines};
-ghost use Rattle.mixal_text.specs.Prelude.{is_other, op_of_line};
+ghost use Rattle.mixal_text.specs.Prelude.{is_other};
 ghost use Rattle.mixal_asm.specs.Diagnose.{label_of, up_to_end};
-ghost use Rattle.mixal_asm.specs.Mentions.{has_names, is_alf, line_mentions, local_used, mention_if, mentions_after, mentions_of, name_defined, name_used, next_locals, uses_from};
+ghost use Rattle.mixal_asm.specs.Mentions.{line_mentions, mention_if, mentions_after, mentions_of, name_defined, name_used, next_locals, uses_from};
 
 use crate::mentions::{Role, label_of, next_line};
 use crate::source::MAX_SOURCE_BYTES;
@@ -90,7 +90,7 @@ fn add_line(
     let defined = name_defined(before, label_of(line));
     let at = part_span(line, Part::Label);
     add_if(list, defined, Role::Definition, number, at)?;
-    if has_names(line) {
+    if !is_comment(line) && !matches!(line_op(line), Ok(Mnemonic::Alf)) {
         let at = part_span(line, Part::Address);
         add_uses(list, before, after, number, at.from, &line[at.from..at.to])?;
     }
@@ -145,18 +145,6 @@ fn add_if(
     }
 }
 
-fn has_names(line: &[u8]) -> bool
-    ensures { result ≡ has_names line.now }
-{
-    !is_comment(line) && !is_alf(line)
-}
-
-fn is_alf(line: &[u8]) -> bool
-    ensures { result ≡ is_alf (op_of_line line.now) }
-{
-    matches!(line_op(line), Ok(Mnemonic::Alf))
-}
-
 fn name_defined(before: &[u32], loc: Option<Label>) -> Option<Name>
     ensures { result ≡ name_defined before.now loc }
 {
@@ -171,19 +159,14 @@ fn name_used(before: &[u32], after: &[u32], text: &[u8]) -> Option<Name>
     ensures { result ≡ name_used before.now after.now text.now }
 {
     match Local::of(text) {
-        Some(local) => local_used(before, after, local),
+        Some(Local { digit, direction }) => match direction {
+            Direction::Here => None,
+            Direction::Backward => {
+                Some(Name::Local(digit, number_of(before, digit).saturating_sub(1)))
+            }
+            Direction::Forward => Some(Name::Local(digit, number_of(after, digit))),
+        },
         None => Symbol::of(text).map(Name::Symbol),
-    }
-}
-
-fn local_used(before: &[u32], after: &[u32], local: Local) -> Option<Name>
-    ensures { result ≡ local_used before.now after.now local.digit local.direction }
-{
-    let d = local.digit;
-    match local.direction {
-        Direction::Here => None,
-        Direction::Backward => Some(Name::Local(d, number_of(before, d).saturating_sub(1))),
-        Direction::Forward => Some(Name::Local(d, number_of(after, d))),
     }
 }
 

@@ -102,15 +102,9 @@ fn symbol_in(role: Role, line: &[u8]) -> Option<Symbol>
     ensures { result ≡ symbol_in role line.now }
 {
     match role {
-        Role::Definition => symbol_defined(line),
+        Role::Definition => symbol_of_loc(label_of(line)),
         Role::Use => symbol_used(line),
     }
-}
-
-fn symbol_defined(line: &[u8]) -> Option<Symbol>
-    ensures { result ≡ symbol_of_loc (label_of line.now) }
-{
-    symbol_of_loc(label_of(line))
 }
 
 /// The LOC of a line, whatever the rest of it is.

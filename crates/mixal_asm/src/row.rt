@@ -1,8 +1,7 @@
 //! What the listing has of a line.
 ghost use Rattle.std.specs.Prelude.{◌≡◌};
-ghost use Rattle.mixal_text.specs.Line.{line_of, value_of_line};
 ghost use Rattle.mixal_asm.specs.Row.{source_value};
-ghost use Rattle.mixal_asm.specs.Source.{is_instruction, is_instruction_read, says_instruction};
+ghost use Rattle.mixal_asm.specs.Source.{is_instruction};
 
 use mix_word::Word;
 use mixal_text::{Line, Op, Symbol, read_line};
@@ -33,29 +32,15 @@ impl Source {
         ensures { result ≡ is_instruction (source_value self.now) }
     {
         match self {
-            Source::Line(_, text) => is_instruction_text(text),
+            Source::Line(_, text) => matches!(
+                read_line(text),
+                Ok(Line::Code {
+                    op: Op::Machine { .. },
+                    ..
+                })
+            ),
             Source::Literal(_) | Source::Name(_) => false,
         }
-    }
-}
-
-// Whether the text of a line is an instruction: one with a fault is none.
-fn is_instruction_text(text: &[u8]) -> bool
-    ensures { result ≡ is_instruction_read (line_of text.now) }
-{
-    match read_line(text) {
-        Ok(line) => says_instruction(&line),
-        Err(_) => false,
-    }
-}
-
-// Whether what a line says is an instruction: a remark is none.
-fn says_instruction(line: &Line<'_>) -> bool
-    ensures { result ≡ says_instruction (value_of_line line.now) }
-{
-    match line {
-        Line::Code { op, .. } => matches!(op, Op::Machine { .. }),
-        Line::Remark => false,
     }
 }
 

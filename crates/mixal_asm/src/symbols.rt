@@ -1,6 +1,5 @@
 //! The symbols of a program (1.3.2).
 ghost use Rattle.std.specs.Prelude.{◌≡◌};
-ghost use Rattle.mixal_asm.specs.PassOne.{NamesSoFar};
 
 use crate::key::Key;
 use crate::names::NameTable;

@@ -1,8 +1,8 @@
 //! The line that a fault at END is about (1.3.2).
 ghost use Rattle.std.specs.Prelude.{◌≡◌, ◌^◌, map, option_map, position};
 ghost use Rattle.mixal_text.specs.Misread.{IsWithin};
-ghost use Rattle.mixal_asm.specs.Prelude.{waits_for, row_value, source_value};
-ghost use Rattle.mixal_asm.specs.User.{at_use, line_of_word, numbered, shows_word, user_of};
+ghost use Rattle.mixal_asm.specs.Prelude.{waits_for, row_value};
+ghost use Rattle.mixal_asm.specs.User.{at_use, line_of_word, user_of};
 
 use crate::draft::Draft;
 use crate::fault::AsmKind;
@@ -44,21 +44,15 @@ fn line_of_word(rows: &[Row], i: usize) -> Option<(u32, &[u8])>
 {
     let mut rest = rows;
     while let [row, more @ ..] = rest {
-        if shows_word(i, row.shows) {
-            return numbered(&row.source);
+        if matches!(row.shows, Shows::Word(n) if n == i) {
+            return match &row.source {
+                Source::Line(number, text) => Some((*number, text)),
+                Source::Literal(_) | Source::Name(_) => None,
+            };
         }
         rest = more;
     }
     None
-}
-
-fn shows_word(i: usize, shows: Shows) -> bool
-    ensures { result ≡ shows_word i shows }
-{
-    match shows {
-        Shows::Word(n) => n == i,
-        Shows::Nothing | Shows::Value(_) | Shows::Start => false,
-    }
 }
 
 /// The place of the first entry whose word waits for a name.
@@ -76,14 +70,5 @@ fn waits_for(name: &Key, awaits: &Option<Key>) -> bool
     match awaits {
         Some(awaited) => name == awaited,
         None => false,
-    }
-}
-
-fn numbered(source: &Source) -> Option<(u32, &[u8])>
-    ensures { option_map (λ line. (line.0, line.1.now)) result ≡ numbered (source_value source.now) }
-{
-    match source {
-        Source::Line(number, text) => Some((*number, text)),
-        Source::Literal(_) | Source::Name(_) => None,
     }
 }

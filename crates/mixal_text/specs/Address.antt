@@ -8,7 +8,7 @@ use Rattle.mixal_text.specs.declared.local.Direction.TheVariants.{Here, Backward
 use Rattle.mixal_text.specs.declared.local.Local.{Local}
 use Rattle.mixal_text.specs.declared.misread.Misread.{Misread}
 use Rattle.mixal_text.specs.declared.op.Op.{Op}
-use Rattle.mixal_text.specs.declared.op.Op.TheVariants.{Machine, Equ, Orig, Con, Alf, End}
+use Rattle.mixal_text.specs.declared.op.Op.TheVariants.{Machine}
 use Rattle.mixal_text.specs.declared.addresses.APart.{APart}
 use Rattle.mixal_text.specs.declared.addresses.APart.TheVariants as part
 use Rattle.mixal_text.specs.declared.addresses.Operand.{Operand}
@@ -121,29 +121,19 @@ address_of names here normal_f (byte ∷ rest) =
 
 -- a symbol as A-part is a future reference: it is not defined
 abbrev pub IsFuture : NamesValue → APartValue → Type 0
-IsFuture names (Value word) = Unit {0}
 IsFuture names (Name name) = names.value name ≡ None
-IsFuture names (Ahead d) = Unit {0}
-IsFuture names (Literal text) = Unit {0}
+IsFuture names _ = Unit {0}
 
 -- ---- what was read
 
 -- the F that a symbolic operation has where none is written
 abbrev pub f_of : Op → ℕ
 f_of (Machine code f) = f
-f_of Equ = 0
-f_of Orig = 0
-f_of Con = 0
-f_of (Alf word) = 0
-f_of End = 0
+f_of _ = 0
 
 abbrev pub IsMachine : Op → Type 0
 IsMachine (Machine code f) = Unit {0}
-IsMachine Equ = ⊥
-IsMachine Orig = ⊥
-IsMachine Con = ⊥
-IsMachine (Alf word) = ⊥
-IsMachine End = ⊥
+IsMachine _ = ⊥
 
 -- an A-part that was read, without where a literal lies
 abbrev pub value_of_a_part : APart → APartValue

@@ -42,13 +42,8 @@ abbrev pub op_of_line : List ℕ → Result Mnemonic TextFault
 op_of_line text = op_of (first_word (after_first is_blank text))
 
 abbrev pub is_end_op : Result Mnemonic TextFault → Bool
-is_end_op (Ok (Machine operation)) = false
-is_end_op (Ok Equ) = false
-is_end_op (Ok Orig) = false
-is_end_op (Ok Con) = false
-is_end_op (Ok Alf) = false
 is_end_op (Ok End) = true
-is_end_op (Err fault) = false
+is_end_op _ = false
 
 -- a line whose ADDRESS has nothing but MIX characters
 abbrev pub with_address : Option Label → Op → List ℕ → Result LineValue TextFault
@@ -88,11 +83,7 @@ value_of_line (line.Code loc code address) = Code loc code address.now
 -- the code and the normal F of a symbolic operation are bytes of a word
 abbrev pub IsOfBytes : Op → Type 0
 IsOfBytes (op.Machine code f) = (code < 64) × (f < 64)
-IsOfBytes op.Equ = Unit {0}
-IsOfBytes op.Orig = Unit {0}
-IsOfBytes op.Con = Unit {0}
-IsOfBytes (op.Alf word) = Unit {0}
-IsOfBytes op.End = Unit {0}
+IsOfBytes _ = Unit {0}
 
 abbrev pub HasBytes : Line → Type 0
 HasBytes line.Remark = Unit {0}

@@ -31,12 +31,8 @@ outcome_of Field a b = sum_or_fault (sum_of (lower_product a (plus 8)) b)
 
 -- how many bytes it has in a text
 abbrev pub operator_length : Operator → ℕ
-operator_length Add = 1
-operator_length Subtract = 1
-operator_length Multiply = 1
-operator_length Divide = 1
 operator_length Fraction = 2
-operator_length Field = 1
+operator_length _ = 1
 
 -- the operator after a first slash: two slashes are one operator
 abbrev pub slash_operator : List ℕ → Operator

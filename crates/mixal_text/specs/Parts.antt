@@ -1,12 +1,12 @@
 -- Where in a line its parts stand, and which bytes of a part are at fault (1.3.2).
-use Rattle.std.specs.Prelude.{ℕ, ◌+◌, ◌-◌, nat_lt, nat_le, Bool, not, ◌||◌, List, [], ◌∷◌, length, take, drop, is_none, Result, Ok, Err, if◌then◌else◌}
+use Rattle.std.specs.Prelude.{ℕ, ◌+◌, ◌-◌, nat_lt, nat_le, Bool, not, ◌||◌, List, [], ◌∷◌, length, take, drop, is_none, Result, Ok, if◌then◌else◌}
 use Rattle.std.specs.List.{before_first, after_first, position_or_len}
 use Rattle.mix_word.specs.Characters.{character_code}
 use Rattle.mix_lines.specs.Lines.{is_blank}
 use Rattle.mixal_text.specs.declared.fault.TextFault.{TextFault}
 use Rattle.mixal_text.specs.declared.fault.TextFault.TheVariants.{BadByte}
 use Rattle.mixal_text.specs.declared.op.Mnemonic.{Mnemonic}
-use Rattle.mixal_text.specs.declared.op.Mnemonic.TheVariants.{Machine, Equ, Orig, Con, Alf, End}
+use Rattle.mixal_text.specs.declared.op.Mnemonic.TheVariants.{Machine, Alf}
 use Rattle.mixal_text.specs.declared.misread.Span.{Span}
 use Rattle.mixal_text.specs.declared.misread.Misread.{Misread}
 use Rattle.mixal_text.specs.declared.parts.Part.{Part}
@@ -45,13 +45,9 @@ alf_piece (first ∷ text) rest = if is_quote first then before_first is_quote t
 -- is empty; after a name of no operation it is the next word
 unfoldable pub address_span_by : Result Mnemonic TextFault → List ℕ → List ℕ → Span
 address_span_by (Ok (Machine operation)) text rest = span_in text (after_blanks rest) (address_after operation rest)
-address_span_by (Ok Equ) text rest = span_in text (after_blanks rest) (first_word rest)
-address_span_by (Ok Orig) text rest = span_in text (after_blanks rest) (first_word rest)
-address_span_by (Ok Con) text rest = span_in text (after_blanks rest) (first_word rest)
-address_span_by (Ok End) text rest = span_in text (after_blanks rest) (first_word rest)
 address_span_by (Ok Alf) text rest =
     span_in text (alf_text (after_blanks rest) rest) (alf_piece (after_blanks rest) rest)
-address_span_by (Err fault) text rest = span_in text (after_blanks rest) (first_word rest)
+address_span_by _ text rest = span_in text (after_blanks rest) (first_word rest)
 
 unfoldable pub address_span : List ℕ → Span
 address_span text =

@@ -7,21 +7,19 @@ use Rattle.mix_word.specs.declared.decoding.Decoded.TheVariants.{Named, Floating
 use Rattle.mix_word.specs.declared.uses.Uses.{Uses}
 use Rattle.mix_word.specs.declared.uses.UnitUse.{UnitUse}
 use Rattle.mix_word.specs.declared.uses.UnitUse.TheVariants.{Looks, Controls, Reads, Writes}
-use Rattle.mix_word.specs.declared.uses.Uses.TheVariants.{Nothing, FAlone, Address, Count, Operand, Cells, Unit}
+use Rattle.mix_word.specs.declared.uses.Uses.TheVariants.{Nothing, Address, Count, Operand, Cells, Unit}
 use Rattle.mixal_text.specs.declared.misread.Misread.{Misread}
 use Rattle.mixal_text.specs.declared.op.Op.{Op}
-use Rattle.mixal_text.specs.declared.op.Op.TheVariants.{Machine, Equ, Orig, Con, Alf, End}
+use Rattle.mixal_text.specs.declared.op.Op.TheVariants.{Machine}
 use Rattle.mixal_text.specs.declared.refused.Step.{Step}
-use Rattle.mixal_text.specs.Address.{APartValue, Value, Name, Ahead, Literal, OperandValue, address_of}
+use Rattle.mixal_text.specs.Address.{APartValue, Value, OperandValue, address_of}
 use Rattle.mixal_text.specs.WrittenF.{is_asterisk, no_names, written_f}
 
 -- ---- a step that its line gives in numbers: neither M nor F has a symbol or an asterisk, and there is no index
 
 abbrev pub step_with : ℕ → APartValue → ℕ → ℕ → Option Step
 step_with code (Value m) index f = if index == 0 then Some record { code = code; m = m; f = f } else None
-step_with code (Name symbol) index f = None
-step_with code (Ahead d) index f = None
-step_with code (Literal text) index f = None
+step_with code _ index f = None
 
 abbrev pub step_by : ℕ → Result OperandValue Misread → Option Step
 step_by code (Ok operand) = step_with code operand.a operand.index operand.f
@@ -33,11 +31,7 @@ step_at code f address =
 
 abbrev pub step_of : Op → List ℕ → Option Step
 step_of (Machine code f) address = step_at code f address
-step_of Equ address = None
-step_of Orig address = None
-step_of Con address = None
-step_of (Alf word) address = None
-step_of End address = None
+step_of _ address = None
 
 abbrev pub uses_by : Decoded → Uses
 uses_by (Named operation) = uses_of operation
@@ -57,13 +51,8 @@ cannot_do Reads f = f == 17 || f == 18
 cannot_do Writes f = f == 16
 
 abbrev pub cannot : Uses → ℕ → Bool
-cannot Nothing f = false
-cannot FAlone f = false
-cannot Address f = false
-cannot Count f = false
-cannot Operand f = false
-cannot Cells f = false
 cannot (Unit action) f = cannot_do action f
+cannot _ f = false
 
 -- by the F in numbers, whatever M is
 abbrev pub unit_cannot : ℕ → Option ℕ → Bool
@@ -72,27 +61,15 @@ unit_cannot code (Some f) = cannot (uses_at code f) f
 
 abbrev pub asks_unit : Op → List ℕ → Bool
 asks_unit (Machine code f) address = unit_cannot code (written_f address)
-asks_unit Equ address = false
-asks_unit Orig address = false
-asks_unit Con address = false
-asks_unit (Alf word) address = false
-asks_unit End address = false
+asks_unit _ address = false
 
 -- disk, printer and paper tape are controlled with M = 0 alone
 abbrev pub takes_zero_alone : ℕ → Bool
 takes_zero_alone f = (nat_le 8 f && nat_lt f 16) || f == 18 || f == 20
 
 abbrev pub is_control : Uses → Bool
-is_control Nothing = false
-is_control FAlone = false
-is_control Address = false
-is_control Count = false
-is_control Operand = false
-is_control Cells = false
-is_control (Unit Looks) = false
 is_control (Unit Controls) = true
-is_control (Unit Reads) = false
-is_control (Unit Writes) = false
+is_control _ = false
 
 abbrev pub has_bad_control : Option Step → Bool
 has_bad_control None = false
@@ -111,16 +88,13 @@ is_jump code = nat_le 39 code && nat_lt code 48
 
 -- how many cells are used from M on, also of a jump if it is taken
 abbrev pub cells_by : ℕ → ℕ → Uses → ℕ
-cells_by code f Nothing = 0
-cells_by code f FAlone = 0
 cells_by code f Address = if is_jump code then 1 else 0
-cells_by code f Count = 0
 cells_by code f Operand = 1
 cells_by code f Cells = f
 cells_by code f (Unit Looks) = 1
-cells_by code f (Unit Controls) = 0
 cells_by code f (Unit Reads) = block f
 cells_by code f (Unit Writes) = block f
+cells_by code f _ = 0
 
 abbrev pub are_beyond : ℕ → Option ℕ → Bool
 are_beyond cells None = not (cells == 0)
@@ -133,13 +107,8 @@ lacks_cell (Some step) = are_beyond (cells_by step.code step.f (uses_at step.cod
 -- ---- a shift by a negative number
 
 abbrev pub is_count : Uses → Bool
-is_count Nothing = false
-is_count FAlone = false
-is_count Address = false
 is_count Count = true
-is_count Operand = false
-is_count Cells = false
-is_count (Unit action) = false
+is_count _ = false
 
 abbrev pub shifts_back : Option Step → Bool
 shifts_back None = false

@@ -9,7 +9,7 @@ use Rattle.mixal_text.specs.declared.label.Label.{Label}
 use Rattle.mixal_text.specs.declared.label.Label.TheVariants as label
 use Rattle.mixal_text.specs.declared.op.Mnemonic.{Mnemonic}
 use Rattle.mixal_text.specs.declared.op.Op.{Op}
-use Rattle.mixal_text.specs.declared.op.Op.TheVariants.{Machine, Equ, Orig, Con, Alf, End}
+use Rattle.mixal_text.specs.declared.op.Op.TheVariants.{Machine, Equ, Alf}
 use Rattle.mixal_text.specs.declared.slips.Slip.{Slip}
 use Rattle.mixal_text.specs.declared.slips.Slip.TheVariants.{OperationAsLabel, NoLabel, AlfCut, AlfShort, BlankInAddress, NoField, WrongUnit, NoCell, NegativeShift}
 use Rattle.mixal_text.specs.Words.{is_nonblank, after_blanks, after_word}
@@ -25,11 +25,7 @@ use Rattle.mixal_text.specs.Refused.{asks_unit, has_bad_control, lacks_cell, shi
 
 abbrev pub symbol_used_by : Op → List ℕ → Option (List ℕ)
 symbol_used_by (Machine code f) address = symbol_of (before_first is_delimiter address)
-symbol_used_by Equ address = None
-symbol_used_by Orig address = None
-symbol_used_by Con address = None
-symbol_used_by (Alf word) address = None
-symbol_used_by End address = None
+symbol_used_by _ address = None
 
 -- the OP and the ADDRESS of a line that can be read; a remark has none
 abbrev pub op_in : Result LineValue Misread → Option Op
@@ -66,14 +62,7 @@ has_operation (Err fault) = false
 
 abbrev pub loc_slips : Slip → List ℕ → Bool
 loc_slips OperationAsLabel text = has_operation (loc_of_line text)
-loc_slips NoLabel text = false
-loc_slips AlfCut text = false
-loc_slips AlfShort text = false
-loc_slips BlankInAddress text = false
-loc_slips NoField text = false
-loc_slips WrongUnit text = false
-loc_slips NoCell text = false
-loc_slips NegativeShift text = false
+loc_slips _ text = false
 
 -- ---- no LOC
 
@@ -120,20 +109,12 @@ abbrev pub after_op : List ℕ → List ℕ
 after_op text = after_word (after_first is_blank text)
 
 abbrev pub is_alf : Op → Bool
-is_alf (Machine code f) = false
-is_alf Equ = false
-is_alf Orig = false
-is_alf Con = false
 is_alf (Alf word) = true
-is_alf End = false
+is_alf _ = false
 
 abbrev pub is_equ : Op → Bool
-is_equ (Machine code f) = false
 is_equ Equ = true
-is_equ Orig = false
-is_equ Con = false
-is_equ (Alf word) = false
-is_equ End = false
+is_equ _ = false
 
 -- by OP, ADDRESS and the line
 abbrev pub slips : Slip → Op → List ℕ → List ℕ → Bool

@@ -6,7 +6,7 @@ use Rattle.mixal_text.specs.declared.local.Direction.{Direction}
 use Rattle.mixal_text.specs.declared.local.Direction.TheVariants.{Here, Backward, Forward}
 use Rattle.mixal_text.specs.declared.local.Local.{Local}
 use Rattle.mixal_text.specs.declared.op.Op.{Op}
-use Rattle.mixal_text.specs.declared.op.Op.TheVariants.{Machine, Equ, Orig, Con, Alf, End}
+use Rattle.mixal_text.specs.declared.op.Op.TheVariants.{Machine}
 use Rattle.mixal_text.specs.Local.{local_of}
 use Rattle.mixal_text.specs.Symbol.{symbol_of}
 use Rattle.mixal_text.specs.Line.{LineValue, Remark, Code, line_of}
@@ -34,11 +34,7 @@ valued_address (byte ∷ rest) =
 
 abbrev pub valued_by : Op → List ℕ → List ℕ
 valued_by (Machine code f) address = valued_address address
-valued_by Equ address = address
-valued_by Orig address = address
-valued_by Con address = address
-valued_by (Alf word) address = address
-valued_by End address = address
+valued_by _ address = address
 
 abbrev pub valued_in : Result LineValue Misread → List ℕ
 valued_in (Err fault) = []

@@ -7,7 +7,7 @@ use Rattle.mix_word.specs.declared.decoding.Decoded.{Decoded}
 use Rattle.mix_word.specs.declared.decoding.Decoded.TheVariants.{Named, Floating, Unknown}
 use Rattle.mixal_text.specs.declared.misread.Misread.{Misread}
 use Rattle.mixal_text.specs.declared.op.Op.{Op}
-use Rattle.mixal_text.specs.declared.op.Op.TheVariants.{Machine, Equ, Orig, Con, Alf, End}
+use Rattle.mixal_text.specs.declared.op.Op.TheVariants.{Machine}
 use Rattle.mixal_text.specs.Names.{NamesValue}
 use Rattle.mixal_text.specs.Part.{is_open, from_first, up_to, brackets_at}
 use Rattle.mixal_text.specs.Address.{is_equals, is_delimiter}
@@ -61,8 +61,4 @@ refuses code (Some f) = not (takes_f code f)
 
 abbrev pub op_refuses : Op → List ℕ → Bool
 op_refuses (Machine code f) address = refuses code (written_f address)
-op_refuses Equ address = false
-op_refuses Orig address = false
-op_refuses Con address = false
-op_refuses (Alf word) address = false
-op_refuses End address = false
+op_refuses _ address = false

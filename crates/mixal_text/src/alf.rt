@@ -1,6 +1,5 @@
 //! ALF (1.3.2): a word of five characters.
 ghost use Rattle.std.specs.Prelude.{◌≡◌, ◌<◌, ◌≤◌, IfOk, length, position};
-ghost use Rattle.std.specs.List.{before_first, list_any};
 ghost use Rattle.mixal_text.specs.Alf.{is_quote, code_or_fault, five_of, word_of_five, short_word, quoted_word, alf_start, alf_word};
 
 use crate::fault::TextFault;

@@ -1,10 +1,10 @@
 //! Atomic expressions (1.3.2): numbers, symbols, and the asterisk.
-ghost use Rattle.std.specs.Prelude.{◌≡◌, ◌≤◌, ◌∷◌, ◌+◌, drop, length, option_copied, position};
-ghost use Rattle.std.specs.List.{position_or_len, slice_split};
-ghost use Rattle.mixal_text.specs.Prelude.{pieces_of, length_with_one, local_of, symbol_of};
-ghost use Rattle.mixal_text.specs.Atom.{is_other, atom_in, atom_value, number_or_fault, local_value, symbol_value};
-ghost use Rattle.mix_lines.specs.Number.{decimal_number};
+ghost use Rattle.std.specs.Prelude.{◌≡◌, ◌∷◌, ◌+◌, drop, length, option_copied, position};
+ghost use Rattle.std.specs.List.{slice_split};
+ghost use Rattle.mixal_text.specs.Prelude.{pieces_of, length_with_one};
+ghost use Rattle.mixal_text.specs.Atom.{is_other, atom_in, atom_value};
 
+use crate::cut::place_or_end;
 use crate::fault::TextFault;
 use crate::local::{Direction, Local};
 use crate::names::Names;
@@ -23,7 +23,7 @@ pub(crate) fn split_atom(text: &[u8]) -> (&[u8], &[u8])
 {
     match text {
         [b'*', ..] => text.split_at(1),
-        _ => text.split_at(run_length(text)),
+        _ => text.split_at(place_or_end(text, end_of_run(text))),
     }
 }
 
@@ -36,18 +36,6 @@ pub fn split_run(text: &[u8]) -> (&[u8], Option<&[u8]>)
     match end_of_run(text) {
         Some(end) => (&text[..end], Some(&text[end + 1..])),
         None => (text, None),
-    }
-}
-
-// How many letters and digits a text begins with.
-#[tactic(auto, using(crate::proofs::Positions::first_place))]
-fn run_length(text: &[u8]) -> usize
-    ensures is { result ≡ position_or_len is_other text.now }
-    ensures within { result ≤ length text.now }
-{
-    match end_of_run(text) {
-        Some(end) => end,
-        None => text.len(),
     }
 }
 
@@ -67,43 +55,20 @@ pub(crate) fn atom_value<N: Names>(atom: &[u8], names: &N, here: Word) -> Result
     match atom {
         [] => Err(TextFault::BadExpression),
         [b'*', ..] => Ok(here),
-        _ => {
-            if all_digits(atom) {
-                number_value(atom)
-            } else {
-                symbol_value(atom, names)
-            }
-        }
-    }
-}
-
-fn number_value(digits: &[u8]) -> Result<Word, TextFault>
-    ensures { result ≡ number_or_fault (decimal_number digits.now) }
-{
-    match number(digits) {
-        Some(n) if n < WORD_LIMIT => Ok(Word::of(Sign::Plus, n as u32)),
-        _ => Err(TextFault::NumberTooLarge),
-    }
-}
-
-fn symbol_value<N: Names>(text: &[u8], names: &N) -> Result<Word, TextFault>
-    ensures { result ≡ symbol_value (N.names names.now) (local_of text.now) (symbol_of text.now) }
-{
-    match Local::of(text) {
-        Some(local) => local_value(local, names),
-        None => match Symbol::of(text) {
-            Some(symbol) => names.value(&symbol).ok_or(TextFault::UndefinedSymbol),
-            None => Err(TextFault::BadSymbol),
+        _ if all_digits(atom) => match number(atom) {
+            Some(n) if n < WORD_LIMIT => Ok(Word::of(Sign::Plus, n as u32)),
+            _ => Err(TextFault::NumberTooLarge),
         },
-    }
-}
-
-fn local_value<N: Names>(local: Local, names: &N) -> Result<Word, TextFault>
-    ensures { result ≡ local_value (N.names names.now) local.digit local.direction }
-{
-    match local.direction {
-        Direction::Here => Err(TextFault::BadSymbol),
-        Direction::Backward => names.back(local.digit).ok_or(TextFault::NoSuchLocalSymbol),
-        Direction::Forward => Err(TextFault::UndefinedSymbol),
+        _ => match Local::of(atom) {
+            Some(local) => match local.direction {
+                Direction::Here => Err(TextFault::BadSymbol),
+                Direction::Backward => names.back(local.digit).ok_or(TextFault::NoSuchLocalSymbol),
+                Direction::Forward => Err(TextFault::UndefinedSymbol),
+            },
+            None => match Symbol::of(atom) {
+                Some(symbol) => names.value(&symbol).ok_or(TextFault::UndefinedSymbol),
+                None => Err(TextFault::BadSymbol),
+            },
+        },
     }
 }

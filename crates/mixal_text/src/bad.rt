@@ -1,8 +1,8 @@
 //! The bytes of a part that are no MIX character (1.3.2).
 ghost use Rattle.std.specs.Prelude.{◌≡◌, ◌≤◌, length, position};
-ghost use Rattle.std.specs.List.{position_or_len};
-ghost use Rattle.mixal_text.specs.Parts.{bad_span, character_length, is_bad, is_new};
+ghost use Rattle.mixal_text.specs.Parts.{bad_span, is_bad, is_new};
 
+use crate::cut::place_or_end;
 use crate::misread::Span;
 use mix_lines::is_blank;
 use mix_word::code_of;
@@ -15,22 +15,14 @@ pub(crate) fn bad_span(line: &[u8], span: Span) -> Span
     ensures order { result.from ≤ result.to }
     ensures within { result.to ≤ length line.now }
 {
-    let from = span.from + good_length(&line[span.from..span.to]);
-    Span {
-        from,
-        to: from + character_length(&line[from..]),
-    }
-}
-
-// How many bytes a text begins with that are no bad ones.
-#[tactic(auto, using(crate::proofs::Positions::first_place))]
-fn good_length(text: &[u8]) -> usize
-    ensures is { result ≡ position_or_len is_bad text.now }
-    ensures within { result ≤ length text.now }
-{
-    match bad_in(text) {
-        Some(end) => end,
-        None => text.len(),
+    let part = &line[span.from..span.to];
+    let from = span.from + place_or_end(part, bad_in(part));
+    match &line[from..] {
+        [] => Span { from, to: from },
+        [_, rest @ ..] => Span {
+            from,
+            to: from + 1 + place_or_end(rest, new_in(rest)),
+        },
     }
 }
 
@@ -39,28 +31,6 @@ fn bad_in(text: &[u8]) -> Option<usize>
 {
     text.iter()
         .position(|byte| !(is_blank(*byte) || code_of(*byte).is_some()))
-}
-
-fn character_length(text: &[u8]) -> usize
-    ensures is { result ≡ character_length text.now }
-    ensures within { result ≤ length text.now }
-{
-    match text {
-        [] => 0,
-        [_, rest @ ..] => 1 + continued_length(rest),
-    }
-}
-
-// How many bytes a text begins with that continue a character in UTF-8.
-#[tactic(auto, using(crate::proofs::Positions::first_place))]
-fn continued_length(text: &[u8]) -> usize
-    ensures is { result ≡ position_or_len is_new text.now }
-    ensures within { result ≤ length text.now }
-{
-    match new_in(text) {
-        Some(end) => end,
-        None => text.len(),
-    }
 }
 
 fn new_in(text: &[u8]) -> Option<usize>

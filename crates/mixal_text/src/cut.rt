@@ -1,6 +1,6 @@
 //! How a text is cut at its first bracket, delimiter or equals sign.
 ghost use Rattle.std.specs.Prelude.{◌≡◌, ◌≤◌, ◌+◌, ℕ, Bool, IfSome, length, position};
-ghost use Rattle.std.specs.List.{after_first, before_first};
+ghost use Rattle.std.specs.List.{after_first, before_first, position_or_len};
 ghost use Rattle.mixal_text.specs.Part.{from_first, is_close, is_open};
 ghost use Rattle.mixal_text.specs.Address.{is_delimiter, is_equals};
 
@@ -45,6 +45,19 @@ fn cut_at(text: &[u8], at: Option<usize>) -> (&[u8], &[u8])
     }
 }
 
+/// The place that a search found, or the end of the text.
+#[tactic(auto, using(crate::proofs::Positions::first_place))]
+pub(crate) fn place_or_end(text: &[u8], at: Option<usize>) -> usize
+    requires { IfSome at (λ at. at ≤ length text.now) }
+    ensures is { (test : ℕ → Bool) → at ≡ position test text.now → result ≡ position_or_len test text.now }
+    ensures within { result ≤ length text.now }
+{
+    match at {
+        Some(place) => place,
+        None => text.len(),
+    }
+}
+
 /// What follows the first closing bracket.
 #[tactic(auto, using(crate::proofs::PartLemmas::cuts))]
 pub(crate) fn after_close(text: &[u8]) -> &[u8]
@@ -62,12 +75,6 @@ pub(crate) fn equals_in(text: &[u8]) -> Option<usize>
     text.iter().position(|byte| *byte == b'=')
 }
 
-fn delimiter_in(text: &[u8]) -> Option<usize>
-    ensures { result ≡ position is_delimiter text.now }
-{
-    text.iter().position(|byte| *byte == b',' || *byte == b'(')
-}
-
 pub(crate) fn close_in(text: &[u8]) -> Option<usize>
     ensures { result ≡ position is_close text.now }
 {
@@ -78,4 +85,10 @@ pub(crate) fn open_in(text: &[u8]) -> Option<usize>
     ensures { result ≡ position is_open text.now }
 {
     text.iter().position(|byte| *byte == b'(')
+}
+
+fn delimiter_in(text: &[u8]) -> Option<usize>
+    ensures { result ≡ position is_delimiter text.now }
+{
+    text.iter().position(|byte| *byte == b',' || *byte == b'(')
 }

@@ -1,7 +1,6 @@
 //! What stands in the place of LOC (1.3.2).
 ghost use Rattle.std.specs.Prelude.{◌≡◌};
-ghost use Rattle.mixal_text.specs.Local.{local_of};
-ghost use Rattle.mixal_text.specs.Label.{label_of, local_label};
+ghost use Rattle.mixal_text.specs.Label.{label_of};
 
 use crate::local::{Direction, Local};
 use crate::symbol::Symbol;
@@ -20,17 +19,11 @@ impl Label {
         ensures { result ≡ label_of text.now }
     {
         match Local::of(text) {
-            Some(local) => local_label(local),
+            Some(local) => match local.direction {
+                Direction::Here => Some(Label::Local(local.digit)),
+                Direction::Backward | Direction::Forward => None,
+            },
             None => Symbol::of(text).map(Label::Name),
         }
-    }
-}
-
-fn local_label(local: Local) -> Option<Label>
-    ensures { result ≡ local_label local.digit local.direction }
-{
-    match local.direction {
-        Direction::Here => Some(Label::Local(local.digit)),
-        Direction::Backward | Direction::Forward => None,
     }
 }

@@ -1,8 +1,5 @@
 //! Lines (1.3.2): LOC, OP and ADDRESS, parted by blanks.
 ghost use Rattle.std.specs.Prelude.{◌≡◌, IfErr, IfOk, MatchResult, Ok, Err, is_some, length};
-ghost use Rattle.std.specs.List.{list_all};
-ghost use Rattle.std.specs.Char.{is_ascii_alphabetic};
-ghost use Rattle.mix_lines.specs.Lines.{begins_with};
 ghost use Rattle.mixal_text.specs.Words.{first_word};
 ghost use Rattle.mixal_text.specs.Misread.{IsWithin};
 ghost use Rattle.mixal_text.specs.Op.{address_after, are_characters, op_of};
@@ -76,28 +73,18 @@ pub fn line_op(text: &[u8]) -> Result<Mnemonic, TextFault>
     read_op(first_word(split_word(text).1))
 }
 
-/// Whether the OP of a line is END, whatever stands around it (1.3.2). It takes less time than `line_op`.
+/// Whether the OP of a line is END, whatever stands around it (1.3.2). It takes less time than `line_op`: no name of another length,
+/// or with another first letter, has to be looked for among the operations.
+#[tactic(auto, unfolding(crate::specs::Op::op_of, crate::specs::Op::mnemonic_of))]
 pub fn line_is_end(text: &[u8]) -> bool
     ensures end { result ≡ is_end_op (op_of_line text.now) }
 {
-    is_end_name(first_word(split_word(text).1))
-}
-
-// No name of another length, or with another first letter, has to be looked for among the operations.
-#[tactic(auto, unfolding(crate::specs::Op::op_of, crate::specs::Op::mnemonic_of))]
-fn is_end_name(name: &[u8]) -> bool
-    ensures { result ≡ is_end_op (op_of name.now) }
-{
-    match name {
-        [first, _, _] => first.to_ascii_uppercase() == b'E' && is_end(read_op(name)),
+    match first_word(split_word(text).1) {
+        name @ [first, _, _] if first.to_ascii_uppercase() == b'E' => {
+            matches!(read_op(name), Ok(Mnemonic::End))
+        }
         _ => false,
     }
-}
-
-fn is_end(op: Result<Mnemonic, TextFault>) -> bool
-    ensures { result ≡ is_end_op op }
-{
-    matches!(op, Ok(Mnemonic::End))
 }
 
 #[tactic(auto, unfolding(crate::specs::Line::loc_of))]
@@ -174,20 +161,9 @@ fn with_address(loc: Option<Label>, op: Op, address: &[u8]) -> Result<Line<'_>, 
 pub(crate) fn address_after(operation: Operation, rest: &[u8]) -> &[u8]
     ensures { result.now ≡ address_after operation rest.now }
 {
-    let address = first_word(rest);
-    if is_without_operand(operation) && begins_with_letter(address) {
-        &[]
-    } else {
-        address
-    }
-}
-
-fn begins_with_letter(text: &[u8]) -> bool
-    ensures { result ≡ begins_with is_ascii_alphabetic text.now }
-{
-    match text {
-        [] => false,
-        [byte, ..] => byte.is_ascii_alphabetic(),
+    match first_word(rest) {
+        [byte, ..] if is_without_operand(operation) && byte.is_ascii_alphabetic() => &[],
+        address => address,
     }
 }
 

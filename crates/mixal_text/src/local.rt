@@ -1,6 +1,6 @@
 //! Local symbols (1.3.2): a digit and H, B or F.
-ghost use Rattle.std.specs.Prelude.{◌≡◌, ◌<◌, IfSome};
-ghost use Rattle.mixal_text.specs.Local.{local_of, direction_of};
+ghost use Rattle.std.specs.Prelude.{◌≡◌};
+ghost use Rattle.mixal_text.specs.Local.{local_of};
 
 /// Where a local symbol points: to its own line, or to the closest one before or after it.
 #[derive(Clone, Copy)]
@@ -25,7 +25,12 @@ impl Local {
     {
         match text {
             [digit, letter] if digit.is_ascii_digit() => {
-                let direction = direction_of_letter(letter.to_ascii_uppercase())?;
+                let direction = match letter.to_ascii_uppercase() {
+                    b'H' => Direction::Here,
+                    b'B' => Direction::Backward,
+                    b'F' => Direction::Forward,
+                    _ => return None,
+                };
                 Some(Local {
                     digit: *digit - b'0',
                     direction,
@@ -33,16 +38,5 @@ impl Local {
             }
             _ => None,
         }
-    }
-}
-
-fn direction_of_letter(letter: u8) -> Option<Direction>
-    ensures { result ≡ direction_of letter }
-{
-    match letter {
-        b'H' => Some(Direction::Here),
-        b'B' => Some(Direction::Backward),
-        b'F' => Some(Direction::Forward),
-        _ => None,
     }
 }

@@ -1,6 +1,6 @@
 //! The binary operations of an expression (1.3.2).
 ghost use Rattle.std.specs.Prelude.{◌≡◌, ◌≤◌, IfSome, MatchOption, drop, length};
-ghost use Rattle.mixal_text.specs.Operator.{operator_at, operator_length, outcome_of, slash_operator, sum_or_fault, quotient_or_fault};
+ghost use Rattle.mixal_text.specs.Operator.{operator_at, operator_length, outcome_of, sum_or_fault, quotient_or_fault};
 
 use crate::fault::TextFault;
 use mix_word::{Sign, Word, add, div, mul, sub};

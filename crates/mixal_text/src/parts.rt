@@ -1,9 +1,9 @@
 //! Where in a line its parts stand, and which bytes of a part are at fault (1.3.2).
 ghost use Rattle.std.specs.Prelude.{◌≡◌, ◌≤◌, ◌-◌, length};
 ghost use Rattle.std.specs.List.{before_first};
-ghost use Rattle.mixal_text.specs.Prelude.{after_blanks, IsWithin};
+ghost use Rattle.mixal_text.specs.Prelude.{IsWithin};
 ghost use Rattle.mixal_text.specs.Alf.{is_quote};
-ghost use Rattle.mixal_text.specs.Parts.{a_part_span, after_open, f_span, span_in, alf_text, alf_piece, address_span_by, address_span, operation_span, part_misread, part_span, joined, narrowed};
+ghost use Rattle.mixal_text.specs.Parts.{f_span, span_in, address_span, operation_span, part_misread, part_span, joined};
 
 use crate::alf::{alf_start, quote_in};
 use crate::bad::bad_span;
@@ -38,7 +38,13 @@ pub fn part_span(line: &[u8], part: Part) -> Span
         Part::Label => span_in(line, line, split_word(line).0),
         Part::Operation => operation_span(line),
         Part::Address => address_span(line),
-        Part::APart => a_part_span(line, address_span(line)),
+        Part::APart => {
+            let Span { from, to } = address_span(line);
+            Span {
+                from,
+                to: to - after_a_part(&line[from..to]).len(),
+            }
+        }
         Part::FPart => f_span(line, address_span(line)),
         Part::Statement => joined(operation_span(line), address_span(line)),
     }
@@ -49,10 +55,12 @@ pub(crate) fn part_misread(line: &[u8], part: Part, fault: TextFault) -> Misread
     ensures is { result ≡ part_misread line.now part fault }
     ensures within { IsWithin 0 (length line.now) result.at }
 {
-    Misread {
-        fault,
-        at: narrowed(line, fault, part_span(line, part)),
-    }
+    let span = part_span(line, part);
+    let at = match fault {
+        TextFault::BadByte => bad_span(line, span),
+        _ => span,
+    };
+    Misread { fault, at }
 }
 
 // Where a part of a text stands, by what is left of the text from it on.
@@ -79,7 +87,7 @@ fn operation_span(line: &[u8]) -> Span
     span_in(line, rest, split_word(rest).0)
 }
 
-#[tactic(auto, unfolding(crate::specs::Parts::address_span))]
+#[tactic(auto, unfolding(crate::specs::Parts::address_span, crate::specs::Parts::address_span_by))]
 fn address_span(line: &[u8]) -> Span
     ensures is { result ≡ address_span line.now }
     ensures after { (operation_span line.now).from ≤ result.from }
@@ -87,38 +95,17 @@ fn address_span(line: &[u8]) -> Span
     ensures within { result.to ≤ length line.now }
 {
     let (name, rest) = split_word(skip_blanks(split_word(line).1));
-    address_span_by(read_op(name), line, rest)
-}
-
-#[tactic(auto, unfolding(crate::specs::Parts::address_span_by))]
-fn address_span_by(mnemonic: Result<Mnemonic, TextFault>, line: &[u8], rest: &[u8]) -> Span
-    requires { length rest.now ≤ length line.now }
-    ensures is { result ≡ address_span_by mnemonic line.now rest.now }
-    ensures after { length line.now - length rest.now ≤ result.from }
-    ensures order { result.from ≤ result.to }
-    ensures within { result.to ≤ length line.now }
-{
     let from = skip_blanks(rest);
-    match mnemonic {
+    match read_op(name) {
         Ok(Mnemonic::Machine(operation)) => span_in(line, from, address_after(operation, rest)),
-        Ok(Mnemonic::Alf) => alf_span(line, rest),
+        Ok(Mnemonic::Alf) => match from {
+            [b'"', text @ ..] => span_in(line, text, before_quote(text)),
+            _ => {
+                let text = alf_start(rest);
+                span_in(line, text, &text[..text.len().min(5)])
+            }
+        },
         _ => span_in(line, from, first_word(rest)),
-    }
-}
-
-fn alf_span(line: &[u8], rest: &[u8]) -> Span
-    requires { length rest.now ≤ length line.now }
-    ensures is { result ≡ span_in line.now (alf_text (after_blanks rest.now) rest.now) (alf_piece (after_blanks rest.now) rest.now) }
-    ensures after { length line.now - length rest.now ≤ result.from }
-    ensures order { result.from ≤ result.to }
-    ensures within { result.to ≤ length line.now }
-{
-    match skip_blanks(rest) {
-        [b'"', text @ ..] => span_in(line, text, before_quote(text)),
-        _ => {
-            let text = alf_start(rest);
-            span_in(line, text, &text[..text.len().min(5)])
-        }
     }
 }
 
@@ -134,19 +121,7 @@ pub(crate) fn before_quote(text: &[u8]) -> &[u8]
     }
 }
 
-fn a_part_span(line: &[u8], at: Span) -> Span
-    requires order { at.from ≤ at.to }
-    requires within { at.to ≤ length line.now }
-    ensures is { result ≡ a_part_span line.now at }
-    ensures order { result.from ≤ result.to }
-    ensures within { result.to ≤ length line.now }
-{
-    Span {
-        from: at.from,
-        to: at.to - after_a_part(&line[at.from..at.to]).len(),
-    }
-}
-
+#[tactic(auto, using(crate::proofs::PartLemmas::cuts))]
 fn f_span(line: &[u8], at: Span) -> Span
     requires order { at.from ≤ at.to }
     requires within { at.to ≤ length line.now }
@@ -154,24 +129,20 @@ fn f_span(line: &[u8], at: Span) -> Span
     ensures order { result.from ≤ result.to }
     ensures within { result.to ≤ length line.now }
 {
-    let inside = after_open(&line[at.from..at.to]);
-    let from = at.to - inside.len();
-    Span {
-        from,
-        to: from + split_at_close(inside).0.len(),
-    }
-}
-
-// What follows the opening bracket of an ADDRESS.
-#[tactic(auto, using(crate::proofs::PartLemmas::cuts))]
-fn after_open(address: &[u8]) -> &[u8]
-    ensures is { result.now ≡ after_open address.now }
-    ensures within { length result.now ≤ length address.now }
-{
-    let rest = after_a_part(address);
+    let rest = after_a_part(&line[at.from..at.to]);
     match open_in(rest) {
-        Some(start) => &rest[start + 1..],
-        None => &[],
+        Some(start) => {
+            let inside = &rest[start + 1..];
+            let from = at.to - inside.len();
+            Span {
+                from,
+                to: from + split_at_close(inside).0.len(),
+            }
+        }
+        None => Span {
+            from: at.to,
+            to: at.to,
+        },
     }
 }
 
@@ -188,18 +159,5 @@ fn joined(first: Span, second: Span) -> Span
         }
     } else {
         first
-    }
-}
-
-fn narrowed(line: &[u8], fault: TextFault, span: Span) -> Span
-    requires order { span.from ≤ span.to }
-    requires within { span.to ≤ length line.now }
-    ensures is { result ≡ narrowed line.now fault span }
-    ensures order { result.from ≤ result.to }
-    ensures within { result.to ≤ length line.now }
-{
-    match fault {
-        TextFault::BadByte => bad_span(line, span),
-        _ => span,
     }
 }

@@ -2,7 +2,7 @@
 ghost use Rattle.std.specs.Prelude.{◌≡◌};
 ghost use Rattle.std.specs.Char.{is_ascii_digit};
 ghost use Rattle.mix_lines.specs.Lines.{begins_with};
-ghost use Rattle.mixal_text.specs.Slips.{address_is_cut, is_sign, reads_on};
+ghost use Rattle.mixal_text.specs.Slips.{address_is_cut};
 
 use crate::words::{skip_blanks, split_word};
 
@@ -10,25 +10,13 @@ use crate::words::{skip_blanks, split_word};
 pub(crate) fn address_is_cut(address: &[u8], rest: &[u8]) -> bool
     ensures { result ≡ address_is_cut address.now rest.now }
 {
-    !address.is_empty() && reads_on(split_word(skip_blanks(rest)).1)
-}
-
-// Whether what follows a blank reads as if it belonged to the ADDRESS before.
-fn reads_on(text: &[u8]) -> bool
-    ensures { result ≡ reads_on text.now }
-{
-    match text {
-        [] => false,
+    match split_word(skip_blanks(rest)).1 {
+        _ if address.is_empty() => false,
         [b',', ..] => true,
         [b'(', rest @ ..] => begins_with_digit(rest),
-        [byte, rest @ ..] => is_sign(*byte) && begins_with_digit(skip_blanks(rest)),
+        [b'+' | b'-' | b'*' | b'/', rest @ ..] => begins_with_digit(skip_blanks(rest)),
+        _ => false,
     }
-}
-
-fn is_sign(byte: u8) -> bool
-    ensures { result ≡ is_sign byte }
-{
-    byte == b'+' || byte == b'-' || byte == b'*' || byte == b'/'
 }
 
 fn begins_with_digit(text: &[u8]) -> bool

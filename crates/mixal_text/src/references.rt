@@ -1,7 +1,6 @@
 //! Future references (1.3.2): an A-part that is dF, or a symbol that is not defined yet.
 ghost use Rattle.std.specs.Prelude.{◌≡◌, IfSome, MatchOption, Some, None};
-ghost use Rattle.mixal_text.specs.Names.{NamesValue};
-ghost use Rattle.mixal_text.specs.Address.{IsFuture, local_ahead, reference_with, undefined_name, value_of_a_part};
+ghost use Rattle.mixal_text.specs.Address.{IsFuture, reference_with, value_of_a_part};
 
 use crate::addresses::APart;
 use crate::local::{Direction, Local};
@@ -20,31 +19,16 @@ pub(crate) fn reference<'a, N: Names>(atom: &[u8], rest: &[u8], names: &N) -> Op
         return None;
     }
     match Local::of(atom) {
-        Some(local) => local_ahead(local),
-        None => undefined(Symbol::of(atom)?, names),
-    }
-}
-
-fn undefined<'a, N: Names>(symbol: Symbol, names: &N) -> Option<APart<'a>>
-    ensures is { MatchOption result
-        (undefined_name (N.names names.now) symbol ≡ None)
-        (λ a. undefined_name (N.names names.now) symbol ≡ Some (value_of_a_part a)) }
-    ensures future { IfSome result (λ a. IsFuture (N.names names.now) (value_of_a_part a)) }
-{
-    match names.value(&symbol) {
-        Some(_) => None,
-        None => Some(APart::Name(symbol)),
-    }
-}
-
-fn local_ahead<'a>(local: Local) -> Option<APart<'a>>
-    ensures is { MatchOption result
-        (local_ahead local.digit local.direction ≡ None)
-        (λ a. local_ahead local.digit local.direction ≡ Some (value_of_a_part a)) }
-    ensures future { (names : NamesValue) → IfSome result (λ a. IsFuture names (value_of_a_part a)) }
-{
-    match local.direction {
-        Direction::Forward => Some(APart::Ahead(local.digit)),
-        Direction::Here | Direction::Backward => None,
+        Some(local) => match local.direction {
+            Direction::Forward => Some(APart::Ahead(local.digit)),
+            Direction::Here | Direction::Backward => None,
+        },
+        None => {
+            let symbol = Symbol::of(atom)?;
+            match names.value(&symbol) {
+                Some(_) => None,
+                None => Some(APart::Name(symbol)),
+            }
+        }
     }
 }

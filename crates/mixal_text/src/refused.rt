@@ -1,7 +1,7 @@
 //! A step that the machine refuses whatever it holds (1.3.1), by what its line gives in numbers.
 ghost use Rattle.std.specs.Prelude.{◌≡◌};
-ghost use Rattle.mixal_text.specs.Address.{Value, value_of_a_part};
-ghost use Rattle.mixal_text.specs.Refused.{are_beyond, asks_unit, block, cannot, cells_by, has_bad_control, is_control, is_count, lacks_cell, shifts_back, step_of, step_with, takes_zero_alone, uses_at};
+ghost use Rattle.mixal_text.specs.Address.{value_of_a_part};
+ghost use Rattle.mixal_text.specs.Refused.{asks_unit, has_bad_control, lacks_cell, shifts_back, step_of, step_with, uses_at};
 
 use crate::addresses::{APart, address};
 use crate::op::Op;
@@ -42,18 +42,8 @@ fn step_with(code: u8, a: APart<'_>, index: u8, f: u8) -> Option<Step>
     ensures { result ≡ step_with code (value_of_a_part a.entry) index f }
 {
     match a {
-        APart::Value(m) => step_without_index(code, m, index, f),
-        APart::Name(_) | APart::Ahead(_) | APart::Literal(_) => None,
-    }
-}
-
-fn step_without_index(code: u8, m: Word, index: u8, f: u8) -> Option<Step>
-    ensures { result ≡ step_with code (Value m) index f }
-{
-    if index == 0 {
-        Some(Step { code, m, f })
-    } else {
-        None
+        APart::Value(m) if index == 0 => Some(Step { code, m, f }),
+        APart::Value(_) | APart::Name(_) | APart::Ahead(_) | APart::Literal(_) => None,
     }
 }
 
@@ -72,21 +62,15 @@ pub(crate) fn asks_unit(op: Op, address: &[u8]) -> bool
 {
     match op {
         Op::Machine { code, .. } => match written_f(address) {
-            Some(f) => cannot(uses_at(code, f), f),
+            Some(f) => match uses_at(code, f) {
+                Uses::Unit(UnitUse::Controls) => f == 16 || f == 17 || f == 19,
+                Uses::Unit(UnitUse::Reads) => f == 17 || f == 18,
+                Uses::Unit(UnitUse::Writes) => f == 16,
+                _ => false,
+            },
             None => false,
         },
         Op::Equ | Op::Orig | Op::Con | Op::Alf(_) | Op::End => false,
-    }
-}
-
-fn cannot(uses: Uses, f: u8) -> bool
-    ensures { result ≡ cannot uses f }
-{
-    match uses {
-        Uses::Unit(UnitUse::Controls) => f == 16 || f == 17 || f == 19,
-        Uses::Unit(UnitUse::Reads) => f == 17 || f == 18,
-        Uses::Unit(UnitUse::Writes) => f == 16,
-        _ => false,
     }
 }
 
@@ -96,22 +80,12 @@ pub(crate) fn has_bad_control(step: Option<Step>) -> bool
 {
     match step {
         Some(Step { code, m, f }) => {
-            is_control(uses_at(code, f)) && takes_zero_alone(f) && m.magnitude() != 0
+            matches!(uses_at(code, f), Uses::Unit(UnitUse::Controls))
+                && matches!(f, 8..=15 | 18 | 20)
+                && m.magnitude() != 0
         }
         None => false,
     }
-}
-
-fn is_control(uses: Uses) -> bool
-    ensures { result ≡ is_control uses }
-{
-    matches!(uses, Uses::Unit(UnitUse::Controls))
-}
-
-fn takes_zero_alone(f: u8) -> bool
-    ensures { result ≡ takes_zero_alone f }
-{
-    (8 <= f && f < 16) || f == 18 || f == 20
 }
 
 /// Whether one of the cells that are used from M on is none.
@@ -119,41 +93,25 @@ pub(crate) fn lacks_cell(step: Option<Step>) -> bool
     ensures { result ≡ lacks_cell step }
 {
     match step {
-        Some(Step { code, m, f }) => are_beyond(cells_by(code, f, uses_at(code, f)), m.natural()),
+        Some(Step { code, m, f }) => {
+            let cells = match uses_at(code, f) {
+                Uses::Address => u8::from(39 <= code && code < 48),
+                Uses::Operand | Uses::Unit(UnitUse::Looks) => 1,
+                Uses::Cells => f,
+                Uses::Unit(UnitUse::Reads | UnitUse::Writes) => match f {
+                    0..=15 => 100,
+                    16 | 17 => 16,
+                    18 => 24,
+                    _ => 14,
+                },
+                Uses::Nothing | Uses::FAlone | Uses::Count | Uses::Unit(UnitUse::Controls) => 0,
+            };
+            match m.natural() {
+                Some(first) => cells != 0 && u64::from(first) + u64::from(cells) > 4000,
+                None => cells != 0,
+            }
+        }
         None => false,
-    }
-}
-
-fn are_beyond(cells: u8, first: Option<u32>) -> bool
-    ensures { result ≡ are_beyond cells first }
-{
-    match first {
-        Some(first) => cells != 0 && u64::from(first) + u64::from(cells) > 4000,
-        None => cells != 0,
-    }
-}
-
-fn cells_by(code: u8, f: u8, uses: Uses) -> u8
-    ensures { result ≡ cells_by code f uses }
-{
-    match uses {
-        Uses::Address => u8::from(39 <= code && code < 48),
-        Uses::Operand | Uses::Unit(UnitUse::Looks) => 1,
-        Uses::Cells => f,
-        Uses::Unit(UnitUse::Reads | UnitUse::Writes) => block(f),
-        Uses::Nothing | Uses::FAlone | Uses::Count | Uses::Unit(UnitUse::Controls) => 0,
-    }
-}
-
-// The words of a block or a row of a unit.
-fn block(f: u8) -> u8
-    ensures { result ≡ block f }
-{
-    match f {
-        0..=15 => 100,
-        16 | 17 => 16,
-        18 => 24,
-        _ => 14,
     }
 }
 
@@ -162,13 +120,9 @@ pub(crate) fn shifts_back(step: Option<Step>) -> bool
     ensures { result ≡ shifts_back step }
 {
     match step {
-        Some(Step { code, m, f }) => is_count(uses_at(code, f)) && m.natural().is_none(),
+        Some(Step { code, m, f }) => {
+            matches!(uses_at(code, f), Uses::Count) && m.natural().is_none()
+        }
         None => false,
     }
-}
-
-fn is_count(uses: Uses) -> bool
-    ensures { result ≡ is_count uses }
-{
-    matches!(uses, Uses::Count)
 }

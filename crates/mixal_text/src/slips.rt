@@ -1,7 +1,6 @@
 //! What a line uses, and what it has that is allowed and hardly meant (1.3.2).
 ghost use Rattle.std.specs.Prelude.{◌≡◌};
-ghost use Rattle.mixal_text.specs.Line.{loc_of_line};
-ghost use Rattle.mixal_text.specs.Slips.{after_op, has_no_loc, has_operation, has_slip, is_alf, is_code, is_equ, is_operation, loc_slips, slips, symbol_used, symbol_used_by};
+ghost use Rattle.mixal_text.specs.Slips.{has_slip, is_alf, is_code, loc_slips, slips, symbol_used, symbol_used_by};
 
 use crate::alf_slips::{alf_is_cut, alf_is_short};
 use crate::cut::split_at_delimiter;
@@ -130,7 +129,10 @@ fn loc_slips(slip: Slip, line: &[u8]) -> bool
     ensures { result ≡ loc_slips slip line.now }
 {
     match slip {
-        Slip::OperationAsLabel => has_operation(line),
+        Slip::OperationAsLabel => match line_loc(line) {
+            Ok(Some(Label::Name(symbol))) => read_op(symbol.name()).is_ok(),
+            Ok(Some(Label::Local(_)) | None) | Err(_) => false,
+        },
         _ => false,
     }
 }
@@ -139,10 +141,10 @@ fn slips(slip: Slip, op: Op, address: &[u8], line: &[u8]) -> bool
     ensures { result ≡ slips slip op address.now line.now }
 {
     let same = op;
-    let rest = after_op(line);
+    let rest = split_word(skip_blanks(split_word(line).1)).1;
     match slip {
         Slip::OperationAsLabel => false,
-        Slip::NoLabel => is_equ(op) && has_no_loc(line),
+        Slip::NoLabel => matches!(op, Op::Equ) && matches!(line_loc(line), Ok(None)),
         Slip::AlfCut => is_alf(op) && alf_is_cut(rest),
         Slip::AlfShort => is_alf(op) && alf_is_short(skip_blanks(rest)),
         Slip::BlankInAddress => address_is_cut(address, rest),
@@ -153,46 +155,8 @@ fn slips(slip: Slip, op: Op, address: &[u8], line: &[u8]) -> bool
     }
 }
 
-fn has_operation(line: &[u8]) -> bool
-    ensures { result ≡ has_operation (loc_of_line line.now) }
-{
-    match line_loc(line) {
-        Ok(loc) => is_operation(loc),
-        Err(_) => false,
-    }
-}
-
-fn is_operation(loc: Option<Label>) -> bool
-    ensures { result ≡ is_operation loc }
-{
-    match loc {
-        Some(Label::Name(symbol)) => read_op(symbol.name()).is_ok(),
-        Some(Label::Local(_)) | None => false,
-    }
-}
-
-fn has_no_loc(line: &[u8]) -> bool
-    ensures { result ≡ has_no_loc (loc_of_line line.now) }
-{
-    matches!(line_loc(line), Ok(None))
-}
-
-// What stands after OP.
-fn after_op(line: &[u8]) -> &[u8]
-    ensures { result.now ≡ after_op line.now }
-{
-    let (_, rest) = split_word(line);
-    split_word(skip_blanks(rest)).1
-}
-
 fn is_alf(op: Op) -> bool
     ensures { result ≡ is_alf op }
 {
     matches!(op, Op::Alf(_))
-}
-
-fn is_equ(op: Op) -> bool
-    ensures { result ≡ is_equ op }
-{
-    matches!(op, Op::Equ)
 }

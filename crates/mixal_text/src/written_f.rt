@@ -1,14 +1,14 @@
 //! An F that an ADDRESS gives in numbers, and that a step refuses whatever the machine holds (1.3.1, 1.3.2).
 ghost use Rattle.std.specs.Prelude.{◌≡◌, ◌≤◌, length};
 ghost use Rattle.std.specs.List.{list_any};
-ghost use Rattle.mixal_text.specs.WrittenF.{after_a_part, f_in, has_needs, is_asterisk, no_names, op_refuses, refuses, takes_f, written_f};
+ghost use Rattle.mixal_text.specs.WrittenF.{after_a_part, is_asterisk, no_names, op_refuses, written_f};
 
 use crate::addresses::f_at;
 use crate::cut::{equals_in, split_at_bracket, split_at_delimiter};
 use crate::names::Names;
 use crate::op::Op;
 use crate::symbol::Symbol;
-use mix_word::{Decoded, Field, Operation, UNITS, Uses, Word, decode};
+use mix_word::{Decoded, Field, UNITS, Uses, Word, decode};
 
 /// No symbol has a value.
 pub(crate) struct NoNames;
@@ -30,36 +30,19 @@ pub(crate) fn op_refuses(op: Op, address: &[u8]) -> bool
     ensures { result ≡ op_refuses op address.now }
 {
     match op {
-        Op::Machine { code, .. } => refuses(code, written_f(address)),
+        Op::Machine { code, .. } => match written_f(address) {
+            Some(f) => match decode(code, f) {
+                Decoded::Named(operation) => match operation.uses() {
+                    Uses::Operand => Field::of(f).is_none(),
+                    Uses::Unit(_) => UNITS <= f,
+                    Uses::Nothing | Uses::FAlone | Uses::Address | Uses::Count | Uses::Cells =>
+                        false,
+                },
+                Decoded::Floating | Decoded::Unknown => true,
+            },
+            None => false,
+        },
         Op::Equ | Op::Orig | Op::Con | Op::Alf(_) | Op::End => false,
-    }
-}
-
-fn refuses(code: u8, f: Option<u8>) -> bool
-    ensures { result ≡ refuses code f }
-{
-    match f {
-        Some(f) => !takes_f(code, f),
-        None => false,
-    }
-}
-
-fn takes_f(code: u8, f: u8) -> bool
-    ensures { result ≡ takes_f code f }
-{
-    match decode(code, f) {
-        Decoded::Named(operation) => has_needs(operation, f),
-        Decoded::Floating | Decoded::Unknown => false,
-    }
-}
-
-fn has_needs(operation: Operation, f: u8) -> bool
-    ensures { result ≡ has_needs operation f }
-{
-    match operation.uses() {
-        Uses::Operand => Field::of(f).is_some(),
-        Uses::Unit(_) => f < UNITS,
-        Uses::Nothing | Uses::FAlone | Uses::Address | Uses::Count | Uses::Cells => true,
     }
 }
 
@@ -68,12 +51,7 @@ fn has_needs(operation: Operation, f: u8) -> bool
 pub(crate) fn written_f(address: &[u8]) -> Option<u8>
     ensures { result ≡ written_f address.now }
 {
-    f_in(split_at_bracket(after_a_part(address)).1)
-}
-
-fn f_in(brackets: &[u8]) -> Option<u8>
-    ensures { result ≡ f_in brackets.now }
-{
+    let brackets = split_at_bracket(after_a_part(address)).1;
     if has_asterisk(brackets) {
         return None;
     }

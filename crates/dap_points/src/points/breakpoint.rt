@@ -1,10 +1,8 @@
 //! A breakpoint at a cell: which arrivals of a run stop it there.
 
 ghost use Rattle.std.specs.Prelude.{◌≡◌, map};
-ghost use Rattle.std.specs.Option.{option_map};
 ghost use Rattle.std.specs.List.{list_any};
-ghost use Rattle.serde_json.specs.View.{view};
-ghost use Rattle.dap_points.specs.Breakpoint.{holds, arrives, with_arrival, stops, unless_blank, written_in, condition_in, count_in, breakpoint_at};
+ghost use Rattle.dap_points.specs.Breakpoint.{holds, arrives, with_arrival, stops};
 
 use crate::points::comparison::{Comparison, comparison_in};
 use dap_asked::text_in;
@@ -106,16 +104,22 @@ fn holds(world: &World, condition: Option<Comparison>) -> bool
 }
 
 /// The breakpoint at a cell that an entry asks for, or why none stands there.
-#[tactic(auto, unfolding(crate::specs::Breakpoint::breakpoint_at))]
 pub(crate) fn breakpoint_at(
     session: &Session,
     entry: &Value,
     cell: Place,
-) -> Result<Breakpoint, Flaw>
-    ensures { result ≡ breakpoint_at session.now (view entry.now) cell }
-{
-    let condition = condition_in(session, written_in("condition", entry))?;
-    let left = count_in(written_in("hitCondition", entry))?;
+) -> Result<Breakpoint, Flaw> {
+    let condition = match written_in("condition", entry) {
+        None => None,
+        Some(text) => Some(comparison_in(session, text).ok_or(Flaw::NoCondition)?),
+    };
+    let left = match written_in("hitCondition", entry) {
+        None => 1,
+        Some(text) => match long_number(text.as_bytes()) {
+            None | Some(0) => return Err(Flaw::NoCount),
+            Some(number) => number,
+        },
+    };
     Ok(Breakpoint {
         cell,
         condition,
@@ -124,44 +128,11 @@ pub(crate) fn breakpoint_at(
 }
 
 // A member that is a text; a blank one counts as none.
-fn written_in<'v>(name: &str, entry: &'v Value) -> Option<&'v str>
-    ensures { option_map (λ t. t.now) result ≡ written_in name.now (view entry.now) }
-{
-    unless_blank(text_in(name, entry)?)
-}
-
-fn unless_blank(text: &str) -> Option<&str>
-    ensures { option_map (λ t. t.now) result ≡ unless_blank text.now }
-{
+fn written_in<'v>(name: &str, entry: &'v Value) -> Option<&'v str> {
+    let text = text_in(name, entry)?;
     if text.trim_end().is_empty() {
         None
     } else {
         Some(text)
-    }
-}
-
-// What a text says is to hold.
-fn condition_in(session: &Session, text: Option<&str>) -> Result<Option<Comparison>, Flaw>
-    ensures { result ≡ condition_in session.now (option_map (λ t. t.now) text.entry) }
-{
-    match text {
-        None => Ok(None),
-        Some(text) => match comparison_in(session, text) {
-            None => Err(Flaw::NoCondition),
-            Some(comparison) => Ok(Some(comparison)),
-        },
-    }
-}
-
-// A number of arrivals, 1 or more.
-fn count_in(text: Option<&str>) -> Result<u64, Flaw>
-    ensures { result ≡ count_in (option_map (λ t. t.now) text.entry) }
-{
-    match text {
-        None => Ok(1),
-        Some(text) => match long_number(text.as_bytes()) {
-            None | Some(0) => Err(Flaw::NoCount),
-            Some(number) => Ok(number),
-        },
     }
 }

@@ -1,12 +1,12 @@
 //! A condition of a breakpoint: a value, and how it is to compare with another one.
 
-ghost use Rattle.std.specs.Prelude.{◌≡◌, ◌<◌};
-ghost use Rattle.std.specs.Option.{option_map};
-ghost use Rattle.dap_points.specs.Comparison.{after_first_byte, before_last_byte, compared, compares, comparison_in, cut, equal_to, greater_than, less_than, relates, with_sides};
+ghost use Rattle.std.specs.Prelude.{◌≡◌};
+ghost use Rattle.mix_word.specs.Comparison.{order_of};
+ghost use Rattle.dap_points.specs.Comparison.{compares, relates};
 
-use crate::points::amount::{amount_of, order};
+use crate::points::amount::worth_number;
 use dap_asked::{Worth, worth_of};
-use mix_machine::{Cmp, Sign, Word, World};
+use mix_machine::{Cmp, World};
 use mix_session::Session;
 
 /// In which orders of two numbers the first one compares with the second as it is to.
@@ -30,9 +30,21 @@ impl Comparison {
     pub(crate) fn holds(&self, world: &World) -> bool
         ensures { result ≡ compares world.now self.now }
     {
-        let left = amount_of(world, self.left);
-        let right = amount_of(world, self.right);
+        let left = worth_number(world, self.left);
+        let right = worth_number(world, self.right);
         self.relation.relates(order(left, right))
+    }
+}
+
+fn order(left: i64, right: i64) -> Cmp
+    ensures { result ≡ order_of left right }
+{
+    if left < right {
+        Cmp::Less
+    } else if right < left {
+        Cmp::Greater
+    } else {
+        Cmp::Equal
     }
 }
 
@@ -48,114 +60,45 @@ impl Relation {
     }
 }
 
-/// What a text says, if it says a condition: two values with `=`, `==`, `!=`, `<>`, `<`, `<=`, `>` or `>=` between them, or one that is not to be 0.
-pub(crate) fn comparison_in(session: &Session, text: &str) -> Option<Comparison>
-    ensures { result ≡ comparison_in session.now text.now }
-{
-    if let Some((left, right)) = cut(text, '<') {
-        return less_than(session, left, right);
+/// What a text says, if it says a condition: two values with `=`, `==`, `!=`, `<>`, `<`, `<=`, `>`
+/// or `>=` between them, or one that is not to be 0.
+pub(crate) fn comparison_in(session: &Session, text: &str) -> Option<Comparison> {
+    let (left, relation, right) = sides_of(text);
+    Some(Comparison {
+        left: worth_of(session, left)?,
+        relation,
+        right: worth_of(session, right)?,
+    })
+}
+
+fn sides_of(text: &str) -> (&str, Relation, &str) {
+    if let Some((left, right)) = text.split_once('<') {
+        return match (right.strip_prefix("="), right.strip_prefix(">")) {
+            (Some(right), _) => (left, holding(true, true, false), right),
+            (None, Some(right)) => (left, holding(true, false, true), right),
+            (None, None) => (left, holding(true, false, false), right),
+        };
     }
-    if let Some((left, right)) = cut(text, '>') {
-        return greater_than(session, left, right);
+    if let Some((left, right)) = text.split_once('>') {
+        return match right.strip_prefix("=") {
+            Some(right) => (left, holding(false, true, true), right),
+            None => (left, holding(false, false, true), right),
+        };
     }
-    match cut(text, '=') {
-        Some((left, right)) => equal_to(session, left, right),
-        None => {
-            let zero = Worth::Word(Word::of(Sign::Plus, 0));
-            compared(
-                worth_of(session, text),
-                holding(true, false, true),
-                Some(zero),
-            )
-        }
+    match text.split_once('=') {
+        Some((left, right)) => match (left.strip_suffix("!"), right.strip_prefix("=")) {
+            (Some(left), _) => (left, holding(true, false, true), right),
+            (None, Some(right)) => (left, holding(false, true, false), right),
+            (None, None) => (left, holding(false, true, false), right),
+        },
+        None => (text, holding(true, false, true), "0"),
     }
 }
 
-// A text cut at the first of a sign.
-fn cut(text: &str, sign: char) -> Option<(&str, &str)>
-    requires { sign < 128 }
-    ensures { option_map (λ parts. (parts.0.now, parts.1.now)) result ≡ cut sign text.now }
-{
-    text.split_once(sign)
-}
-
-// What follows the sign that a text begins with.
-fn after_sign(text: &str, sign: char) -> Option<&str>
-    requires { sign < 128 }
-    ensures { option_map (λ rest. rest.now) result ≡ after_first_byte (cut sign text.now) }
-{
-    match cut(text, sign) {
-        Some((before, after)) if before.is_empty() => Some(after),
-        _ => None,
-    }
-}
-
-// What is before the sign that a text ends with.
-fn before_sign(text: &str, sign: char) -> Option<&str>
-    requires { sign < 128 }
-    ensures { option_map (λ rest. rest.now) result ≡ before_last_byte (cut sign text.now) }
-{
-    match cut(text, sign) {
-        Some((before, after)) if after.is_empty() => Some(before),
-        _ => None,
-    }
-}
-
-fn less_than(session: &Session, left: &str, right: &str) -> Option<Comparison>
-    ensures { result ≡ less_than session.now left.now right.now }
-{
-    if let Some(rest) = after_sign(right, '=') {
-        return with_sides(session, left, holding(true, true, false), rest);
-    }
-    match after_sign(right, '>') {
-        Some(rest) => with_sides(session, left, holding(true, false, true), rest),
-        None => with_sides(session, left, holding(true, false, false), right),
-    }
-}
-
-fn greater_than(session: &Session, left: &str, right: &str) -> Option<Comparison>
-    ensures { result ≡ greater_than session.now left.now right.now }
-{
-    match after_sign(right, '=') {
-        Some(rest) => with_sides(session, left, holding(false, true, true), rest),
-        None => with_sides(session, left, holding(false, false, true), right),
-    }
-}
-
-fn equal_to(session: &Session, left: &str, right: &str) -> Option<Comparison>
-    ensures { result ≡ equal_to session.now left.now right.now }
-{
-    if let Some(rest) = before_sign(left, '!') {
-        return with_sides(session, rest, holding(true, false, true), right);
-    }
-    match after_sign(right, '=') {
-        Some(rest) => with_sides(session, left, holding(false, true, false), rest),
-        None => with_sides(session, left, holding(false, true, false), right),
-    }
-}
-
-fn holding(less: bool, equal: bool, greater: bool) -> Relation
-    ensures { result ≡ record { less = less; equal = equal; greater = greater } }
-{
+fn holding(less: bool, equal: bool, greater: bool) -> Relation {
     Relation {
         less,
         equal,
         greater,
     }
-}
-
-fn with_sides(session: &Session, left: &str, relation: Relation, right: &str) -> Option<Comparison>
-    ensures { result ≡ with_sides session.now left.now relation right.now }
-{
-    compared(worth_of(session, left), relation, worth_of(session, right))
-}
-
-fn compared(left: Option<Worth>, relation: Relation, right: Option<Worth>) -> Option<Comparison>
-    ensures { result ≡ compared left relation right }
-{
-    Some(Comparison {
-        left: left?,
-        relation,
-        right: right?,
-    })
 }

@@ -1,13 +1,5 @@
 //! Breakpoints by their kinds: where each that is asked for stands, and how it is told.
 
-ghost use Rattle.std.specs.Prelude.{◌≡◌, ◌++◌, IfOk, OnOk, Option, None};
-ghost use Rattle.std.specs.Option.{option_to_list};
-ghost use Rattle.std.specs.List.{filter_map};
-ghost use Rattle.serde_json.specs.Data.{Data};
-ghost use Rattle.serde_json.specs.View.{view};
-ghost use Rattle.dap_asked.specs.Entries.{entries_of};
-ghost use Rattle.dap_points.specs.Points.{line_asked, line_point, instruction_cell, instruction_asked, instruction_point, data_point};
-
 use crate::points::breakpoint::{Breakpoint, Flaw, breakpoint_at};
 use crate::points::line::cell_of_line;
 use dap_asked::{
@@ -26,17 +18,13 @@ pub(crate) trait PointKind {
     /// What stands of one.
     type Point: Drop;
 
-    // What stands of the one that an entry asks for, if it can stand.
-    ghost point: { Self → Data → Option Self.Point };
-
     /// Adds what stands of the one that an entry asks for, and gives how it is told.
     fn add(
         &self,
         alloc: Global,
         entry: &Value,
         points: &mut Vec<Self::Point>,
-    ) -> Result<Value, Memory>
-        ensures { OnOk result (points.new.items ≡ points.old.items ++ option_to_list (point self.now (view entry.now))) };
+    ) -> Result<Value, Memory>;
 }
 
 /// What stands of all that a request asks for in the list of a name, and its answer.
@@ -45,9 +33,7 @@ pub(crate) fn set_all<K: PointKind>(
     kind: &K,
     request: &Request,
     name: &str,
-) -> Result<(Vec<K::Point>, Value), Memory>
-    ensures { IfOk result (λ set. set.0.items ≡ filter_map (K.point kind.now) (entries_of request.now name.now)) }
-{
+) -> Result<(Vec<K::Point>, Value), Memory> {
     let mut points = Vec::new(alloc);
     let mut told = Vec::new(alloc);
     let entries = entries_of(request, name);
@@ -66,8 +52,6 @@ pub(crate) struct Lines<'a> {
 
 impl PointKind for Lines<'_> {
     type Point = Breakpoint;
-
-    ghost point = { λ kind. line_point kind.session.now kind.first };
 
     fn add(
         &self,
@@ -89,9 +73,7 @@ impl PointKind for Lines<'_> {
 }
 
 // One of a line, with the line of the word at its cell.
-fn line_asked(session: &Session, first: u64, entry: &Value) -> Result<(Breakpoint, u64), Flaw>
-    ensures { result ≡ line_asked session.now first (view entry.now) }
-{
+fn line_asked(session: &Session, first: u64, entry: &Value) -> Result<(Breakpoint, u64), Flaw> {
     let number = source_line(first, number_in("line", entry).unwrap_or(0));
     let (cell, line) = cell_of_line(session.program(), number).ok_or(Flaw::NoWord)?;
     let breakpoint = breakpoint_at(session, entry, cell)?;
@@ -106,8 +88,6 @@ pub(crate) struct Instructions<'a> {
 
 impl PointKind for Instructions<'_> {
     type Point = Breakpoint;
-
-    ghost point = { λ kind. instruction_point kind.session.now };
 
     fn add(
         &self,
@@ -126,17 +106,13 @@ impl PointKind for Instructions<'_> {
 }
 
 // One of an instruction, with its cell.
-fn instruction_asked(session: &Session, entry: &Value) -> Result<(Breakpoint, Place), Flaw>
-    ensures { result ≡ instruction_asked session.now (view entry.now) }
-{
+fn instruction_asked(session: &Session, entry: &Value) -> Result<(Breakpoint, Place), Flaw> {
     let cell = instruction_cell(entry).ok_or(Flaw::NoCell)?;
     let breakpoint = breakpoint_at(session, entry, cell)?;
     Ok((breakpoint, cell))
 }
 
-fn instruction_cell(entry: &Value) -> Option<Place>
-    ensures { result ≡ instruction_cell (view entry.now) }
-{
+fn instruction_cell(entry: &Value) -> Option<Place> {
     let reference = text_in("instructionReference", entry)?;
     cell_of_reference(reference, integer_in("offset", entry).unwrap_or(0))
 }
@@ -149,8 +125,6 @@ pub(crate) struct Parts<'a> {
 
 impl PointKind for Parts<'_> {
     type Point = Condition;
-
-    ghost point = { λ kind. data_point kind.session.now };
 
     fn add(
         &self,
@@ -176,8 +150,6 @@ struct Unset {
 
 impl PointKind for Unset {
     type Point = Breakpoint;
-
-    ghost point = { λ _ _. None };
 
     fn add(
         &self,

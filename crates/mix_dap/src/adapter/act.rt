@@ -1,20 +1,24 @@
 //! What moves the machine or changes it: it is read into values, done by the session, and told.
 
-ghost use Rattle.std.specs.Prelude.{◌≡◌, IfOk, OnErr};
+ghost use Rattle.std.specs.Prelude.{◌≡◌, ◌⊎◌, IfOk, OnErr};
 ghost use Rattle.mix_refused.specs.Refused.{IfMemory};
-ghost use Rattle.mix_session.specs.Prelude.{after, effect_of, effect_of_run, Begun, no_stops};
+ghost use Rattle.mix_session.specs.Prelude.{after, effect_of, effect_of_run, world_of, Begun, no_stops};
 ghost use Rattle.mix_session.specs.declared.command.stops.Way.TheVariants as ways;
 ghost use Rattle.mix_session.specs.declared.request.Request.TheVariants.{BackAll};
 ghost use Rattle.dap_asked.specs.Deed.{effect_of_deed};
 ghost use Rattle.mix_dap.specs.Console.{deed_asked};
 ghost use Rattle.mix_dap.specs.Leaves.{BreaksOff, Does, unless_refused};
-ghost use Rattle.mix_dap.specs.Reaction.{acts, beside, deed_done, restarted, written};
+ghost use Rattle.dap_asked.specs.declared.deed.Deed.TheVariants as deeds;
+ghost use Rattle.mix_session.specs.Over.{steps_over};
+ghost use Rattle.mix_dap.specs.Reaction.{acts, beside, deed_done, restarted, stepped_over, written};
+ghost use Rattle.mix_dap.specs.Runs.{most};
 ghost use Rattle.mix_dap.specs.Reacts.{Answered, AnsweredOr, Keeps};
 ghost use Rattle.dap_points.specs.Written.{Writes, write_asked};
 
-use crate::adapter::{Adapter, Then};
+use crate::adapter::legs::MOST;
+use crate::adapter::{Adapter, Then, Way};
 use crate::console::is_line;
-use dap_asked::{Act, Deed, Fault, deed_of};
+use dap_asked::{Act, Deed, Fault, deed_of, nothing};
 use dap_points::write_memory;
 use mix_refused::{Memory, Refused};
 use mix_session::{Answer, Session, Stops};
@@ -60,6 +64,27 @@ impl Adapter {
             Ok(answer) => Ok(self.tell(act, answer, request, out)?),
             Err(refused) => Err(refused),
         }
+    }
+
+    // A step; or, if that calls a subroutine, the program runs until that has come back.
+    pub(crate) fn step_over(
+        &mut self,
+        request: &Request,
+        out: &mut Outbox,
+    ) -> Result<Then, Refused<Fault>>
+        ensures keeps { Keeps self.old self.new }
+        ensures program { self.new.session.program ≡ self.old.session.program }
+        ensures first { self.new.session.timeline.first ≡ self.old.session.timeline.first }
+        ensures begun { IfMemory result ((self.new.session.timeline ≡ self.old.session.timeline) ⊎ Begun (effect_of_deed deeds.Step self.old.session.timeline) self.new.session.timeline) }
+        ensures reacts { AnsweredOr (stepped_over (steps_over (world_of self.old.session.timeline) most) self.old) request.now self.old self.new out.old out.new result }
+    {
+        let steps = self.session.steps_over(self.alloc, MOST)?;
+        if steps == 1 {
+            return self.act_on(Act::Step, Deed::Step, request, out);
+        }
+        self.fault = None;
+        out.reply(request, nothing())?;
+        Ok(Then::Run(Way::Over(steps)))
     }
 
     // The program is at its beginning again, with all changes taken back.

@@ -69,6 +69,7 @@ impl Adapter {
             }
             Kind::Launch => Err(Refused::Fault(Fault::Launched)),
             Kind::Write => self.write(request, out),
+            Kind::StepOver => self.step_over(request, out),
             Kind::Act(act) => self.act(act, request, out),
         }
     }

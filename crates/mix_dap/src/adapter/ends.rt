@@ -3,9 +3,11 @@
 ghost use Rattle.std.specs.Prelude.{◌≡◌, IfOk, OnOk, string_bytes};
 ghost use Rattle.std.specs.Option.{option_map};
 ghost use Rattle.rpc_message.specs.Fields.{members_in};
-ghost use Rattle.mix_dap.specs.Runs.{is_limit};
+ghost use Rattle.mix_dap.specs.Runs.{is_paused};
 ghost use Rattle.mix_dap.specs.Stopped.{fault_at, put_text, text_of};
 
+use crate::adapter::Way;
+use crate::adapter::legs::{MOST, most_of};
 use mix_machine::MixFault;
 use mix_refused::Memory;
 use mix_session::{Answer, End};
@@ -36,12 +38,12 @@ pub(crate) fn text_of(alloc: Global, end: End) -> Result<Option<String>, Memory>
     }
 }
 
-/// Whether a run has ended by its number of changes.
-pub(crate) fn is_limit(end: End) -> bool
-    ensures { result ≡ is_limit end }
+/// Whether a run this way has ended since it was long enough.
+pub(crate) fn is_paused(way: Way, end: End) -> bool
+    ensures { result ≡ is_paused way end }
 {
     match end {
-        End::Limit => true,
+        End::Limit => most_of(way) == MOST,
         End::Halt | End::Fault(_) | End::Until(_) | End::Break | End::Arrived | End::Start => false,
     }
 }

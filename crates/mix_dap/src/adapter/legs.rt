@@ -3,7 +3,7 @@
 ghost use Rattle.std.specs.Prelude.{◌≡◌, IfErr, IfOk};
 ghost use Rattle.mix_session.specs.declared.answer.Answer.TheVariants.{Ran};
 ghost use Rattle.mix_session.specs.Command.{Begun};
-ghost use Rattle.mix_dap.specs.Runs.{Leg, RunBroken, RunDone, awaited_by, effect_of_leg, passes_by, points_counted, timeline_after};
+ghost use Rattle.mix_dap.specs.Runs.{Leg, RunBroken, RunDone, awaited_by, effect_of_leg, most_of, passes_by, points_counted, timeline_after};
 
 use crate::adapter::Way;
 use dap_points::Points;
@@ -12,7 +12,7 @@ use mix_refused::Memory;
 use mix_session::{End, Session};
 
 /// The most changes of a run, after which the client is heard.
-const MOST: u32 = 1_000_000;
+pub(crate) const MOST: u32 = 1_000_000;
 
 /// A whole run, and how it has ended.
 pub(crate) fn run_legs(session: &mut Session, points: &mut Points, way: Way) -> Result<End, Memory>
@@ -21,13 +21,23 @@ pub(crate) fn run_legs(session: &mut Session, points: &mut Points, way: Way) -> 
     ensures done { IfOk result (λ end. RunDone way points.old session.old.timeline end points.new session.new.timeline) }
     ensures broken { IfErr result (λ _. RunBroken way points.old session.old.timeline points.new session.new.timeline) }
 {
-    let mut left = MOST;
+    let mut left = most_of(way);
     'legs: loop {
         let (made, end) = run_leg(session, points, way, left)?;
         if !passes_by(end, points, awaited_by(way), session.world()) {
             return Ok(end);
         }
         left = left.saturating_sub(made);
+    }
+}
+
+/// How many changes it has at most.
+pub(crate) fn most_of(way: Way) -> u32
+    ensures { result ≡ most_of way }
+{
+    match way {
+        Way::Forth(_) | Way::Back => MOST,
+        Way::Over(steps) => steps,
     }
 }
 
@@ -65,6 +75,7 @@ fn run_to(session: &mut Session, points: &Points, way: Way, left: u32) -> Result
 {
     let (way, location) = match way {
         Way::Forth(location) => (mix_session::Way::Again, location),
+        Way::Over(_) => (mix_session::Way::Again, None),
         Way::Back => (mix_session::Way::Back, None),
     };
     session.run(way, left, &points.stops(location))
@@ -76,7 +87,7 @@ fn awaited_by(way: Way) -> Option<u16>
 {
     match way {
         Way::Forth(location) => location,
-        Way::Back => None,
+        Way::Over(_) | Way::Back => None,
     }
 }
 

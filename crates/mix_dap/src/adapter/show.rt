@@ -1,8 +1,8 @@
 //! What only looks, and what sets breakpoints.
 
-ghost use Rattle.std.specs.Prelude.{◌≡◌, OnOk, OnErr, string_bytes};
-ghost use Rattle.dap_points.specs.Points.{points_after};
-ghost use Rattle.mix_dap.specs.Reaction.{points_set};
+ghost use Rattle.std.specs.Prelude.{◌≡◌, OnOk, OnErr};
+ghost use Rattle.dap_points.specs.Points.{with_kind};
+ghost use Rattle.mix_dap.specs.Reaction.{kind_set};
 
 use crate::adapter::Adapter;
 use crate::launch::Opening;
@@ -63,7 +63,7 @@ impl Adapter {
 
     // Breakpoints in place of those that stand, unless the program is not debugged; nothing else is altered. None is refused.
     pub(crate) fn set_points(&mut self, target: Target, request: &Request) -> Result<Value, Memory>
-        ensures stand { OnOk result (self.new ≡ record self.old { points = points_set self.old.opening target request.now self.old }) }
+        ensures stand { OnOk result (self.new ≡ record self.old { points = with_kind (kind_set self.old.opening target) self.new.points self.old.points }) }
         ensures same { OnErr result (self.new ≡ self.old) }
     {
         match self.opening {
@@ -73,7 +73,7 @@ impl Adapter {
     }
 
     fn replace_points(&mut self, target: Target, request: &Request) -> Result<Value, Memory>
-        ensures stand { OnOk result (self.new ≡ record self.old { points = points_after target self.old.session (string_bytes self.old.name) self.old.client.first request.now self.old.points }) }
+        ensures stand { OnOk result (self.new ≡ record self.old { points = with_kind target self.new.points self.old.points }) }
         ensures same { OnErr result (self.new ≡ self.old) }
     {
         let alloc = self.alloc;

@@ -10,7 +10,7 @@ ghost use Rattle.mix_dap.specs.Prelude.{all_told, outputs, Keeps};
 ghost use Rattle.mix_dap.specs.Runs.{before_last, conflict_met, meets_filter, why_of_run, word_at};
 ghost use Rattle.mix_dap.specs.Stopped.{reason_of, fault_at, out_of_memory, why_of, why_with};
 
-use crate::adapter::ends::{fault_at, is_limit, put_text, text_of};
+use crate::adapter::ends::{fault_at, is_paused, put_text, text_of};
 use crate::adapter::{Adapter, Way};
 use crate::event::tell_event;
 use crate::launch::Opening;
@@ -85,7 +85,7 @@ impl Adapter {
     fn tell_end(&self, way: Way, end: End, out: &mut Outbox) -> Result<(), Memory>
         ensures { OnOk result (AddsEvents (stopped (why_of_run way self.now.points self.now.session.timeline end) ∷ []) out.old out.new) }
     {
-        if is_limit(end) {
+        if is_paused(way, end) {
             self.stopped("pause", Some("paused after 1000000 changes"), out)
         } else {
             self.tell_why(self.conflict_met(way, end)?, end, out)
@@ -209,7 +209,7 @@ fn before_last(way: Way, session: &Session) -> usize
 {
     let done = session.changes().len();
     match way {
-        Way::Forth(_) => done.saturating_sub(1),
+        Way::Forth(_) | Way::Over(_) => done.saturating_sub(1),
         Way::Back => done,
     }
 }

@@ -33,8 +33,9 @@ impl World {
                     Some(bits) => bits,
                     None => unreachable!(),
                 };
-                *anchor = before_store(*anchor);
-                self.go_to(anchor.loc, anchor.clock);
+                let to = before_store(*anchor);
+                self.go_to(to.loc, to.clock);
+                anchor.set(to);
                 self.set_value(Old::Cell(place, long(bits)));
                 3
             }

@@ -32,6 +32,7 @@ impl World {
     }
 
     /// MUL.
+    #[inline(always)]
     pub(crate) fn multiply(&self, a: Arguments) -> Outcome
         ensures { result ≡ outcome_of Operation.Mul self.now a }
     {
@@ -40,6 +41,7 @@ impl World {
     }
 
     /// DIV: where there is no quotient the toggle goes on, and rA and rX stay.
+    #[inline(always)]
     pub(crate) fn divide(&self, a: Arguments) -> Outcome
         ensures { result ≡ outcome_of Operation.Div self.now a }
     {
@@ -71,6 +73,7 @@ impl World {
     }
 
     /// SLA, SRA, SLAX, SRAX, SLC, SRC; M is not negative.
+    #[inline(always)]
     pub(crate) fn shift_registers(&self, kind: ShiftKind, a: Arguments) -> Outcome
         ensures { result ≡ outcome_of (Operation.Shift kind) self.now a }
     {

@@ -1,14 +1,13 @@
 //! The end of a step: its time, and its plan carried out.
 ghost use Rattle.std.specs.Prelude.{◌≡◌, ◌<◌, ◌+◌, ◌^◌, nat_lt};
 ghost use Rattle.mix_word.specs.declared.decoding.Decoded.TheVariants.{Named};
-ghost use Rattle.mix_machine.specs.Prelude.{last_clock, answer_of, applies, use_of, start_of, transfer_start, step_or_fault, Carried};
+ghost use Rattle.mix_machine.specs.Prelude.{last_clock, applies, use_of, start_of, transfer_start, step_or_fault, Carried};
 ghost use Rattle.mix_machine.specs.law.Stages.{of_address, fault_among, outcome_of, timed_or_fault};
 
 use crate::decode::Arguments;
 use crate::fault::MixFault;
 use crate::old::Old;
 use crate::plan::{Effects, Outcome, Plan};
-use crate::step::told::told;
 use crate::units::UnitNo;
 use crate::world::World;
 use mix_word::{Operation, UnitUse, Uses};
@@ -16,31 +15,13 @@ use undo_core::{Kept, Refused};
 
 const MAX_CLOCK: u64 = 1_000_000_000_000_000_000;
 
-// The most that one change keeps.
-const MAX_KEPT: usize = 104;
+/// The most that one change keeps.
+pub(crate) const MAX_KEPT: usize = 104;
 
 impl World {
-    /// Ends a step of an operation, by what the operation does, or its first fault. It returns the byte that tells which.
+    /// Ends a step of an operation, by what the operation does, or its first fault, and keeps what it overwrites.
     #[inline(always)]
-    pub(crate) fn finish(
-        &mut self,
-        operation: Operation,
-        outcome: Outcome,
-        a: Arguments,
-        kept: &mut Kept<Old>,
-    ) -> u8
-        requires cell { self.old.loc < 4000 }
-        requires f { a.f < 64 }
-        requires served { fault_among (applies (Named operation) self.old a) of_address ≡ None }
-        requires outcome { outcome ≡ outcome_of operation self.old a }
-        ensures { Carried (step_or_fault (Named operation) self.old a) self.old self.new kept.old.items kept.new.items (answer_of result) }
-    {
-        told(self.finished(operation, outcome, a, kept))
-    }
-
-    // The same, and the answer itself.
-    #[inline(always)]
-    fn finished(
+    pub(crate) fn finished(
         &mut self,
         operation: Operation,
         outcome: Outcome,
@@ -67,9 +48,9 @@ impl World {
         }
     }
 
-    // The plan of an operation that its instruction allows: its own faults, and then the clock.
+    /// The plan of an operation that its instruction allows: its own faults, and then the clock.
     #[inline(always)]
-    fn plan_of_served(
+    pub(crate) fn plan_of_served(
         &self,
         operation: Operation,
         outcome: Outcome,

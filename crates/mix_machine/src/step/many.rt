@@ -1,15 +1,18 @@
 //! Steps one after the other, as long as none needs a look at the machine first.
-ghost use Rattle.std.specs.Prelude.{◌≡◌, ◌<◌, option_map};
-ghost use Rattle.mix_machine.specs.Prelude.{cell_of, plan_of, answer_of, ends_if, Carried};
+ghost use Rattle.std.specs.Prelude.{◌≡◌, ◌<◌, ◌≤◌, List, [], true, false, option_map};
+ghost use Rattle.mix_machine.specs.Prelude.{cell_of, plan_of, answer_of, ends_if, is_plain_next, Carried};
 ghost use Rattle.mix_machine.specs.law.Steps.{Stepped};
+ghost use Rattle.mix_machine.specs.declared.old.Old.{Old};
 
 use crate::fault::MixFault;
 use crate::many::is_ended;
 use crate::old::{Change, Old};
+use crate::step::ending::Forgets;
 use crate::step::told::{answer_of, told};
 use crate::watch::Watch;
 use crate::world::World;
 use mix_word::{Place, Word};
+use std::alloc::Global;
 use undo_core::{Kept, Refused};
 
 impl World {
@@ -36,6 +39,47 @@ impl World {
     {
         let (done, answer) = self.steps_told(most, watch, kept);
         (done, answer_of(answer))
+    }
+
+    /// Does a step that needs no look at the machine first, and the next one as long as that needs
+    /// none, so many at most, and keeps nothing of what they overwrite. It returns how many were
+    /// done, and why not one more, if that was tried and refused.
+    pub fn run(&mut self, alloc: Global, most: usize) -> (usize, Result<(), Refused<MixFault>>)
+        requires some { 0 < most }
+        requires plain { is_plain_next self.old ≡ true }
+        ensures within { result.0 ≤ most }
+        ensures steps { (values : List Old) × Stepped (λ _. false) most self.old self.new [] values result.0 result.1 }
+    {
+        let mut end = Forgets {
+            spare: Kept::new(alloc),
+        };
+        let (done, answer) = self.run_told(most, &mut end);
+        (done, answer_of(answer))
+    }
+
+    // The same, and a byte that tells the answer.
+    #[inline(never)]
+    fn run_told(&mut self, most: usize, end: &mut Forgets) -> (usize, u8)
+        requires some { 0 < most }
+        requires plain { is_plain_next self.old ≡ true }
+        ensures { (values : List Old) × Stepped (λ _. false) most self.old self.new [] values result.0 (answer_of result.1) }
+    {
+        let mut done = 0;
+        while done < most {
+            // (the proof knows the ranges of the machine where a field of it is named)
+            let _ = &self.loc;
+            match self.plain_word() {
+                None => return (done, told(Ok(()))),
+                Some(word) => {
+                    let answer = self.step_of_word(word, end);
+                    if answer != 0 {
+                        return (done, answer);
+                    }
+                    done += 1;
+                }
+            }
+        }
+        (done, told(Ok(())))
     }
 
     // The same, and a byte that tells the answer.

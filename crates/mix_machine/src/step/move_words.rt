@@ -12,6 +12,7 @@ use mix_word::{CELLS, Operation, Reg, Sign, Word, add};
 
 impl World {
     /// MOVE: F words; rI1 grows by F.
+    #[inline(always)]
     pub(crate) fn move_words(&self, a: Arguments) -> Outcome
         ensures { result ≡ outcome_of Operation.Move self.now a }
     {

@@ -4,19 +4,16 @@ ghost use Rattle.mix_run.specs.Print.{printed};
 
 use crate::print::options::PrintOptions;
 use crate::print::watch::Watch;
-use mix_machine::{Change, Many, Old, World, change_law, transfer_law};
-use mix_refused::Memory;
+use mix_machine::{World, change_law, transfer_law};
+use mix_refused::{Memory, Refused};
 use mix_word::decode_law;
-use undo_core::{Kept, Refused, Undo};
-
-// The most steps that are done together. What they overwrite is kept that long.
-const TOGETHER: u64 = 256;
+use std::alloc::Global;
 
 /// The plain steps that come next, so many at most, if the run is not traced and no transfer is under way; how many steps are left. They write nothing, and
 /// the run of those that are left is the run of all. (A step that is a fault is left too, since it alters nothing.)
 pub(super) fn plain_steps(
+    alloc: Global,
     world: &mut World,
-    kept: &mut Kept<Old>,
     watch: &Watch,
     options: PrintOptions,
     most: u64,
@@ -40,9 +37,7 @@ pub(super) fn plain_steps(
         if !plain {
             return Ok(left);
         }
-        kept.clear();
-        let together = left.min(TOGETHER) as usize;
-        let (done, answer) = world.apply_until(&Change::Step, together, &Many::Freely, kept);
+        let (done, answer) = world.run(alloc, left as usize);
         match answer {
             Err(Refused::Memory) => return Err(Memory),
             _ => left -= done as u64,

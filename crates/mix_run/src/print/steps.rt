@@ -78,22 +78,14 @@ pub(super) fn print_steps<W: Out>(
         watch,
     };
     // (most steps are plain, and are done by themselves)
-    let mut left = plain_steps(
-        world,
-        &mut records.kept,
-        &records.watch,
-        options,
-        options.steps,
-    )?;
+    let mut left = plain_steps(alloc, world, &records.watch, options, options.steps)?;
     while left > 0 {
         let number = options.steps - left + 1;
         let mut text = Vec::new(alloc);
         let end = print_step(alloc, world, &mut records, number, options, &mut text)?;
         write_all(out, &text)?;
         match end {
-            None => {
-                left = plain_steps(world, &mut records.kept, &records.watch, options, left - 1)?
-            }
+            None => left = plain_steps(alloc, world, &records.watch, options, left - 1)?,
             Some(end) => {
                 return Ok(Stepped {
                     end,

@@ -23,18 +23,13 @@ pub enum Talker {
     Person,
 }
 
-const GREETING: &str =
-    "Type a command, such as step, back 1 or show regs; help lists them all, quit ends.\n";
+const GREETING: &[u8] =
+    b"Type a command, such as step, back 1 or show regs; help lists them all, quit ends.\n";
 
-const PROMPT: &str = "(mixrev) ";
+const PROMPT: &[u8] = b"(mixrev) ";
 
 /// A text is written beside the replies. Where that fails, nothing more is: the talk goes on.
-pub(crate) fn say<E: Out>(text: &str, errors: &mut E) {
-    say_bytes(text.as_bytes(), errors);
-}
-
-/// The same of bytes.
-pub(crate) fn say_bytes<E: Out>(text: &[u8], errors: &mut E) {
+pub(crate) fn say<E: Out>(text: &[u8], errors: &mut E) {
     if errors.failures() == 0 {
         match write_all(errors, text) {
             Ok(()) | Err(_) => {}
@@ -43,9 +38,7 @@ pub(crate) fn say_bytes<E: Out>(text: &[u8], errors: &mut E) {
 }
 
 /// Greets a person, once, after the warnings of the source.
-pub(crate) fn greet<E: Out>(moment: &Moment, talker: Talker, errors: &mut E)
-    ensures { talker ≡ Talker.Program → errors.new ≡ errors.old }
-{
+pub(crate) fn greet<E: Out>(moment: &Moment, talker: Talker, errors: &mut E) {
     match talker {
         Talker::Program => {}
         Talker::Person => {
@@ -57,21 +50,20 @@ pub(crate) fn greet<E: Out>(moment: &Moment, talker: Talker, errors: &mut E)
 }
 
 /// Prompts a person for a line; or ends the line of the prompt, if the input is over.
-pub(crate) fn prompt<E: Out>(talker: Talker, is_over: bool, errors: &mut E)
-    ensures { talker ≡ Talker.Program → errors.new ≡ errors.old }
-{
+pub(crate) fn prompt<E: Out>(talker: Talker, is_over: bool, errors: &mut E) {
     match talker {
         Talker::Program => {}
-        Talker::Person => say(if is_over { "\n" } else { PROMPT }, errors),
+        Talker::Person => say(if is_over { b"\n".as_slice() } else { PROMPT }, errors),
     }
 }
 
 /// Help on what the word after `help` names, or on all.
-pub(crate) fn help<E: Out>(line: &[u8], errors: &mut E) {
+pub(crate) fn help(line: &[u8], note: &mut Vec<u8>) -> Result<(), Memory> {
     let mut words = Words::of(line);
     match words.next() {
-        Some(_) | None => say(help_on(words.next()), errors),
+        Some(_) | None => note.extend_from_slice(help_on(words.next()).as_bytes())?,
     }
+    Ok(())
 }
 
 /// What follows the reply to a command: a stop, of which the reply itself shows the step, or none was done; one after steps or changes that were done,
@@ -115,54 +107,58 @@ fn after_request(request: Request) -> After
 
 /// A person is told what follows the reply: what the last step altered, if the reply says that it was done; after each stop the next instruction;
 /// and the form of a command that is refused.
-pub(crate) fn tell<E: Out>(
+pub(crate) fn tell(
     after: After,
     told: Told,
     session: &Session,
     line: &[u8],
-    errors: &mut E,
-) {
+    note: &mut Vec<u8>,
+) -> Result<(), Memory> {
     match (after, told) {
         (After::Nothing | After::Changed, _) => {}
         (After::Done, Told::Accepted) => {
-            tell_topic(session, Topic::Last(1), errors);
-            tell_place(session, errors);
+            tell_topic(session, Topic::Last(1), note)?;
+            tell_place(session, note)?;
         }
-        (After::Stop | After::Done, _) => tell_place(session, errors),
-        (After::Refused, _) => say(form_of(Words::of(line).next()), errors),
+        (After::Stop | After::Done, _) => tell_place(session, note)?,
+        (After::Refused, _) => {
+            note.extend_from_slice(form_of(Words::of(line).next()).as_bytes())?
+        }
     }
+    Ok(())
 }
 
 // The next instruction, with its line of the source.
-fn tell_place<E: Out>(session: &Session, errors: &mut E) {
-    if let Some(place) = Place::of(session.world().loc()) {
-        tell_topic(session, Topic::Code(place, place), errors);
+fn tell_place(session: &Session, note: &mut Vec<u8>) -> Result<(), Memory> {
+    match Place::of(session.world().loc()) {
+        Some(place) => tell_topic(session, Topic::Code(place, place), note),
+        None => Ok(()),
     }
 }
 
 // What `show` shows of a topic.
-fn tell_topic<E: Out>(session: &Session, topic: Topic, errors: &mut E) {
-    match session.text(&Answer::Shows(topic)) {
-        Ok(text) => say_bytes(&text, errors),
-        Err(Memory) => {}
-    }
+fn tell_topic(session: &Session, topic: Topic, note: &mut Vec<u8>) -> Result<(), Memory> {
+    let text = session.text(&Answer::Shows(topic))?;
+    note.extend_from_slice(&text)?;
+    Ok(())
 }
 
-// What a line shows now: a part of the machine, or what a script's `show` does.
-fn tell_line_shown<E: Out>(alloc: Global, session: &Session, line: &[u8], errors: &mut E) {
-    match (shown_part(alloc, session, line), session.read(line)) {
-        (Ok(Some(text)), _) => say_bytes(&text, errors),
-        (Ok(None), Ok(Request::Show(topic))) => tell_topic(session, topic, errors),
-        (Ok(None), Ok(_) | Err(_)) | (Err(Memory), _) => {}
-    }
-}
-
-/// What some lines show now.
-pub(crate) fn tell_shown<E: Out>(alloc: Global, session: &Session, lines: &[u8], errors: &mut E) {
+/// What some lines show now: each a part of the machine, or what a script's `show` does.
+pub(crate) fn tell_shown(
+    alloc: Global,
+    session: &Session,
+    lines: &[u8],
+    note: &mut Vec<u8>,
+) -> Result<(), Memory> {
     let mut rest = lines;
     while !rest.is_empty() {
         let (line, after) = split_line(rest);
-        tell_line_shown(alloc, session, line, errors);
+        match (shown_part(alloc, session, line)?, session.read(line)) {
+            (Some(text), _) => note.extend_from_slice(&text)?,
+            (None, Ok(Request::Show(topic))) => tell_topic(session, topic, note)?,
+            (None, Ok(_) | Err(_)) => {}
+        }
         rest = after;
     }
+    Ok(())
 }

@@ -1,23 +1,32 @@
 //! What is told of the file that a person's line names.
 
 use crate::reason::Reason;
-use crate::talk::aside::{say, say_bytes};
-use mix_stream::Out;
+use mix_refused::Memory;
 
 /// What became of a file.
-pub(crate) fn tell_file<E: Out>(what: &str, name: &[u8], reason: &str, errors: &mut E) {
-    say(what, errors);
-    say_bytes(name, errors);
-    say(reason, errors);
-    say("\n", errors);
+pub(crate) fn tell_file(
+    what: &[u8],
+    name: &[u8],
+    reason: &str,
+    note: &mut Vec<u8>,
+) -> Result<(), Memory> {
+    note.extend_from_slice(what)?;
+    note.extend_from_slice(name)?;
+    note.extend_from_slice(reason.as_bytes())?;
+    note.extend_from_slice(b"\n")?;
+    Ok(())
 }
 
 /// A file that can't be opened.
-pub(crate) fn tell_not_opened<E: Out>(name: &[u8], reason: Reason, errors: &mut E) {
-    tell_file("T4 not opened: ", name, reason.text(), errors);
+pub(crate) fn tell_not_opened(
+    name: &[u8],
+    reason: Reason,
+    note: &mut Vec<u8>,
+) -> Result<(), Memory> {
+    tell_file(b"T4 not opened: ", name, reason.text(), note)
 }
 
 /// A file or a bundle that is longer than it may be.
-pub(crate) fn tell_too_long<E: Out>(name: &[u8], errors: &mut E) {
-    tell_file("T6 input too long: ", name, "", errors);
+pub(crate) fn tell_too_long(name: &[u8], note: &mut Vec<u8>) -> Result<(), Memory> {
+    tell_file(b"T6 input too long: ", name, "", note)
 }

@@ -46,7 +46,6 @@ pub(crate) fn talk<O: Opener, R: In, W: Out, E: Out>(
     ensures deck { (f : DeckFault) → result ≢ Err (ToolFault.Deck f) }
     ensures ends { IfOk result IsStatus }
     ensures write { CountsFailure (result ≡ Err ToolFault.Write) (W.failed streams.old.out) (W.failed streams.new.out) }
-    ensures quiet { streams.old.talker ≡ Talker.Program → streams.new.errors ≡ streams.old.errors }
     ensures untouched { streams.old.talker ≡ Talker.Program → files.new ≡ files.old }
 {
     let talker = streams.talker;

@@ -2,14 +2,12 @@
 
 ghost use Rattle.std.specs.Prelude.{◌≡◌, OnOk};
 
-use crate::talk::aside::{say, say_bytes};
 use crate::talk::recall::Recall;
 use mix_lines::{Words, number, split_line};
 use mix_machine::Place;
 use mix_person::form_of;
 use mix_refused::Memory;
 use mix_session::Session;
-use mix_stream::Out;
 use mixal_asm::Source;
 use mixal_text::Symbol;
 use std::alloc::Global;
@@ -65,28 +63,28 @@ fn line_asked(session: &Session, unsaid: u64, line: &[u8]) -> Option<u64> {
     }
 }
 
-fn tell_line<E: Out>(
+fn tell_line(
     alloc: Global,
     number: u64,
     is_next: bool,
     line: &[u8],
-    errors: &mut E,
+    note: &mut Vec<u8>,
 ) -> Result<(), Memory> {
     let mark = if is_next { '>' } else { ' ' };
     let place = format!(in alloc; "{number:5}{mark} ")?;
-    say(place.as_str(), errors);
-    say_bytes(line, errors);
-    say("\n", errors);
+    note.extend_from_slice(place.as_bytes())?;
+    note.extend_from_slice(line)?;
+    note.extend_from_slice(b"\n")?;
     Ok(())
 }
 
 // The lines around one, each with its number; a mark is at that of the next instruction. Whether there is one; else how many the source has is said.
-fn tell_around<E: Out>(
+fn tell_around(
     alloc: Global,
     source: &[u8],
     around: u64,
     next: Option<u64>,
-    errors: &mut E,
+    note: &mut Vec<u8>,
 ) -> Result<bool, Memory> {
     let mut rest = source;
     let mut number = 1u64;
@@ -94,7 +92,7 @@ fn tell_around<E: Out>(
     while !rest.is_empty() && number < around.saturating_add(FROM) {
         let (line, after) = split_line(rest);
         if number.saturating_add(BEFORE) >= around {
-            tell_line(alloc, number, next == Some(number), line, errors)?;
+            tell_line(alloc, number, next == Some(number), line, note)?;
             is_found = true;
         }
         number = number.saturating_add(1);
@@ -102,7 +100,7 @@ fn tell_around<E: Out>(
     }
     if !is_found {
         let end = format!(in alloc; "the source has {} lines\n", number.saturating_sub(1))?;
-        say(end.as_str(), errors);
+        note.extend_from_slice(end.as_bytes())?;
     }
     Ok(is_found)
 }
@@ -117,12 +115,12 @@ fn line_unsaid(recall: &Recall, loc: u16, next: Option<u64>) -> u64 {
 
 /// Tells the lines of the source around the one that a person's line names; if it names none, around that of the next instruction, and the next time
 /// those that come then.
-pub(crate) fn list<E: Out>(
+pub(crate) fn list(
     recall: &mut Recall,
     session: &Session,
     source: &[u8],
     line: &[u8],
-    errors: &mut E,
+    note: &mut Vec<u8>,
 ) -> Result<(), Memory>
     ensures { OnOk result (recall.new ≡ recall.old) }
 {
@@ -130,10 +128,10 @@ pub(crate) fn list<E: Out>(
     let next = next_line(session);
     let loc = session.world().loc();
     let Some(around) = line_asked(session, line_unsaid(recall, loc, next), line) else {
-        say(form_of(Some(b"list")), errors);
+        note.extend_from_slice(form_of(Some(b"list")).as_bytes())?;
         return Ok(());
     };
-    let is_found = tell_around(alloc, source, around, next, errors)?;
+    let is_found = tell_around(alloc, source, around, next, note)?;
     recall.list_ends(if is_found {
         Some(Listed { around, loc })
     } else {

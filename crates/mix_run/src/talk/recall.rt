@@ -7,7 +7,7 @@ ghost use Rattle.mix_session.specs.Session.{request_in};
 mod points;
 
 use crate::bundle::copy_of;
-use crate::talk::aside::{After, say, say_bytes, tell_shown};
+use crate::talk::aside::{After, tell_shown};
 use crate::talk::finish::finished;
 use crate::talk::listing::Listed;
 use crate::talk::points::can_wait;
@@ -15,7 +15,6 @@ use crate::talk::watched::{condition_watched, put_watched};
 use mix_person::{form_of, person_line, shows_part};
 use mix_refused::Memory;
 use mix_session::{Request, Session};
-use mix_stream::Out;
 use std::alloc::Global;
 use std::marker::Model;
 
@@ -32,8 +31,8 @@ pub(crate) struct Recall {
     listed: Option<Listed>,
 }
 
-pub(crate) const MOST: &str =
-    "no more than eight are watched or are breakpoints; delete forgets those, clear all these\n";
+pub(crate) const MOST: &[u8] =
+    b"no more than eight are watched or are breakpoints; delete forgets those, clear all these\n";
 
 impl Model for Recall {
     ghost use Rattle.mix_run.specs.Recall.{RecallState};
@@ -105,11 +104,11 @@ impl Recall {
     }
 
     /// What a line asks for is watched too, if it has conditions, and there are then no more than eight; a person is told what is not.
-    pub(crate) fn watch<E: Out>(
+    pub(crate) fn watch(
         &mut self,
         session: &Session,
         line: &[u8],
-        errors: &mut E,
+        note: &mut Vec<u8>,
     ) -> Result<(), Memory>
         ensures { OnOk result (self.new ≡ recalled_watch session.now (request_in session.now line.now) line.now self.old) }
     {
@@ -117,31 +116,31 @@ impl Recall {
             Ok(Request::RunUntil(..)) => {
                 let mut watch = copy_of(self.alloc, &self.watch)?;
                 put_watched(&mut watch, line)?;
-                self.watch_more(session, watch, errors)?;
+                self.watch_more(session, watch, note)?;
             }
             Ok(_) => {}
-            Err(_) => say(form_of(Some(b"watch")), errors),
+            Err(_) => note.extend_from_slice(form_of(Some(b"watch")).as_bytes())?,
         }
         Ok(())
     }
 
     // This is watched, if there are then no more than eight conditions.
-    fn watch_more<E: Out>(
+    fn watch_more(
         &mut self,
         session: &Session,
         watch: Vec<u8>,
-        errors: &mut E,
+        note: &mut Vec<u8>,
     ) -> Result<(), Memory>
         ensures { OnOk result (self.new ≡ watched_more session.now watch.items self.old) }
     {
         if !can_wait(self.alloc, session, &watch, &self.points)? {
-            say(MOST, errors);
+            note.extend_from_slice(MOST)?;
             return Ok(());
         }
         self.watch = watch;
-        say("watching", errors);
-        say_bytes(condition_watched(&self.watch), errors);
-        say("\n", errors);
+        note.extend_from_slice(b"watching")?;
+        note.extend_from_slice(condition_watched(&self.watch))?;
+        note.extend_from_slice(b"\n")?;
         Ok(())
     }
 
@@ -153,20 +152,20 @@ impl Recall {
     }
 
     /// What a line asks for is shown, now and after each stop, if it is there to be shown.
-    pub(crate) fn display<E: Out>(
+    pub(crate) fn display(
         &mut self,
         session: &Session,
         line: &[u8],
-        errors: &mut E,
+        note: &mut Vec<u8>,
     ) -> Result<(), Memory>
         ensures { OnOk result (self.new ≡ recalled_display session.now line.now self.old) }
     {
         if shows_part(line) || session.read(line).is_ok() {
             self.displays.extend_from_slice(line)?;
             self.displays.extend_from_slice(b"\n")?;
-            tell_shown(self.alloc, session, line, errors);
+            tell_shown(self.alloc, session, line, note)?;
         } else {
-            say(form_of(Some(b"display")), errors);
+            note.extend_from_slice(form_of(Some(b"display")).as_bytes())?;
         }
         Ok(())
     }
@@ -179,10 +178,15 @@ impl Recall {
     }
 
     /// After a stop a person is told what is displayed.
-    pub(crate) fn tell_displays<E: Out>(&self, after: After, session: &Session, errors: &mut E) {
+    pub(crate) fn tell_displays(
+        &self,
+        after: After,
+        session: &Session,
+        note: &mut Vec<u8>,
+    ) -> Result<(), Memory> {
         match after {
-            After::Nothing | After::Changed | After::Refused => {}
-            After::Stop | After::Done => tell_shown(self.alloc, session, &self.displays, errors),
+            After::Nothing | After::Changed | After::Refused => Ok(()),
+            After::Stop | After::Done => tell_shown(self.alloc, session, &self.displays, note),
         }
     }
 

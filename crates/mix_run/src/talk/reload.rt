@@ -6,71 +6,45 @@ ghost use Rattle.mixal_asm.specs.Assembly.{assembly};
 ghost use Rattle.mix_session.specs.Prelude.{after, effect_in};
 ghost use Rattle.mix_run.specs.Prelude.{after_lines, Files};
 ghost use Rattle.mix_run.specs.Reload.{reloaded, reloaded_as};
-ghost use Rattle.mix_run.specs.Sources.{is_reload};
 
-use crate::beside::tell_report;
 use crate::bundle::{MAX_BUNDLE_BYTES, copy_of, parts_of};
+use crate::commands::answered;
 use crate::opener::Opener;
-use crate::talk::aside::{After, Talker, say, say_bytes, tell};
-use crate::talk::done::answer_to;
+use crate::talk::aside::{After, tell};
 use crate::talk::file::tell_file;
 use crate::talk::moment::Moment;
 use crate::talk::source::tell_unread;
+use mix_check::add_report;
 use mix_lines::split_line;
 use mix_machine::Units;
-use mix_person::{Line, kind_of};
 use mix_refused::{Memory, Refused};
-use mix_session::{Answer, Session, Told};
-use mix_stream::Out;
+use mix_session::{Session, Told};
 use mixal_asm::assemble;
 
-const RELOADED: &str = "reloaded: ";
-
-/// Whether a typed line reloads the source; a program's line never does.
-pub(crate) fn is_reload(talker: Talker, line: &[u8]) -> bool
-    ensures { result ≡ is_reload talker line.now }
+// A line of a script is done again; one that is not accepted is told, with its reply.
+fn redo_line(session: &mut Session, line: &[u8], note: &mut Vec<u8>) -> Result<(), Memory>
+    ensures { OnOk result (session.new ≡ record session.old { timeline = after (effect_in session.old line.now) }) }
 {
-    match talker {
-        Talker::Program => false,
-        Talker::Person => match kind_of(line) {
-            Line::Reload => true,
-            _ => false,
-        },
-    }
-}
-
-// A line that is not accepted when it is done again is told, with its reply.
-fn tell_redone<E: Out>(session: &Session, line: &[u8], answer: Answer, errors: &mut E) {
+    let (answer, reply) = answered(session, line)?;
     match answer.told() {
         Told::Accepted => {}
         Told::Refused => {
-            say_bytes(line, errors);
-            say("\n", errors);
-            match session.text(&answer) {
-                Ok(text) => say_bytes(&text, errors),
-                Err(Memory) => {}
-            }
+            note.extend_from_slice(line)?;
+            note.extend_from_slice(b"\n")?;
+            note.extend_from_slice(&reply)?;
         }
     }
-}
-
-// A line of a script is done again.
-fn redo_line<E: Out>(session: &mut Session, line: &[u8], errors: &mut E) -> Result<(), Memory>
-    ensures { OnOk result (session.new ≡ record session.old { timeline = after (effect_in session.old line.now) }) }
-{
-    let answer = answer_to(session, line)?;
-    tell_redone(session, line, answer, errors);
     Ok(())
 }
 
 // The lines of a script are done again, one after the other.
-fn redo<E: Out>(session: &mut Session, script: &[u8], errors: &mut E) -> Result<(), Memory>
+fn redo(session: &mut Session, script: &[u8], note: &mut Vec<u8>) -> Result<(), Memory>
     ensures { OnOk result (session.new ≡ after_lines session.old (lines script.now)) }
 {
     let mut rest = script;
     while !rest.is_empty() {
         let (line, after) = split_line(rest);
-        redo_line(session, line, errors)?;
+        redo_line(session, line, note)?;
         rest = after;
     }
     Ok(())
@@ -79,7 +53,7 @@ fn redo<E: Out>(session: &mut Session, script: &[u8], errors: &mut E) -> Result<
 // A source that was read is assembled, and its program takes the place of the one before it. A
 // person is told what comes next, and what is displayed, as after each stop; or why the source is
 // refused.
-fn reload_source<E: Out>(moment: &mut Moment, source: &[u8], errors: &mut E) -> Result<(), Memory>
+fn reload_source(moment: &mut Moment, source: &[u8], note: &mut Vec<u8>) -> Result<(), Memory>
     ensures reloaded { OnOk result (moment.new ≡ reloaded_as source.now (assembly source.now) moment.old) }
     ensures kept { OnErr result (moment.new ≡ moment.old) }
 {
@@ -93,7 +67,7 @@ fn reload_source<E: Out>(moment: &mut Moment, source: &[u8], errors: &mut E) -> 
         Ok(program) => program,
         Err(Refused::Memory) => return Err(Memory),
         Err(Refused::Fault(_)) => {
-            tell_report(alloc, origin.name(), source, errors);
+            add_report(alloc, origin.name(), source, note)?;
             return Ok(());
         }
     };
@@ -104,22 +78,22 @@ fn reload_source<E: Out>(moment: &mut Moment, source: &[u8], errors: &mut E) -> 
     };
     let text = copy_of(alloc, source)?;
     let mut anew = Session::open(alloc, program, units)?;
-    redo(&mut anew, recall.done(), errors)?;
-    tell_report(alloc, origin.name(), source, errors);
-    tell_file(RELOADED, origin.name().as_bytes(), "", errors);
+    redo(&mut anew, recall.done(), note)?;
+    add_report(alloc, origin.name(), source, note)?;
+    tell_file(b"reloaded: ", origin.name().as_bytes(), "", note)?;
+    tell(After::Stop, Told::Accepted, &anew, b"", note)?;
+    recall.tell_displays(After::Stop, &anew, note)?;
     *session = anew;
     origin.put_source(text);
-    tell(After::Stop, Told::Accepted, session, b"", errors);
-    recall.tell_displays(After::Stop, session, errors);
     Ok(())
 }
 
 /// Reads the source again, and does in the machine that it loads what was done so far; of a bundle the deck is not read again. If it can't be read or
 /// is refused, a person is told why, and all is as it was; so it is where memory is refused.
-pub(crate) fn reload<O: Opener, E: Out>(
+pub(crate) fn reload<O: Opener>(
     moment: &mut Moment,
     files: &mut O,
-    errors: &mut E,
+    note: &mut Vec<u8>,
 ) -> Result<(), Memory>
     ensures reloaded { (all : Files) → O.holds files.old ≡ Some all → OnOk result (moment.new ≡ reloaded (all moment.old.origin.name) moment.old) }
     ensures kept { OnErr result (moment.new ≡ moment.old) }
@@ -129,11 +103,8 @@ pub(crate) fn reload<O: Opener, E: Out>(
 {
     let (alloc, name) = (moment.recall.allocator(), moment.origin.name());
     match files.read(alloc, name.as_bytes(), MAX_BUNDLE_BYTES + 1) {
-        Ok(text) => reload_source(moment, parts_of(&text).source, errors),
+        Ok(text) => reload_source(moment, parts_of(&text).source, note),
         Err(Refused::Memory) => Err(Memory),
-        Err(Refused::Fault(unread)) => {
-            tell_unread(unread, name.as_bytes(), errors);
-            Ok(())
-        }
+        Err(Refused::Fault(unread)) => { tell_unread(unread, name.as_bytes(), note) }
     }
 }

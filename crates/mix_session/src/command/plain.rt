@@ -1,6 +1,6 @@
 //! Plain steps of a run, many at a time.
 
-ghost use Rattle.std.specs.Prelude.{◌≡◌, ◌≤◌, ◌<◌, Err, Some, IfOk, IfSome, IsTrue, None, OnOk, OnErr, true, false, length};
+ghost use Rattle.std.specs.Prelude.{◌≡◌, ◌≤◌, ◌<◌, Err, Some, IfOk, IfSome, None, OnOk, OnErr, true, false, length};
 ghost use Rattle.mix_machine.specs.Many.{ends_at};
 ghost use Rattle.mix_session.specs.Plain.{AllowsMany, ArePlain, AreSteps, HasEnd, IsLeft, LeavesOff, locations_of, watch_for};
 

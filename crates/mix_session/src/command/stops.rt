@@ -4,7 +4,7 @@ ghost use Rattle.std.specs.Prelude.{◌≡◌, ◌<◌, ◌==◌, ℕ, IfErr, If
 ghost use Rattle.std.specs.List.{list_any};
 ghost use Rattle.std.specs.Option.{option_or};
 ghost use Rattle.mix_session.specs.Prelude.{is_at_break, effect_of_run, end_there, AreMarks, first_met, end_by_marks};
-ghost use Rattle.mix_session.specs.Stops.{StopsState, is_at_stop, is_awaited};
+ghost use Rattle.mix_session.specs.Stops.{StopsState, is_at_stop};
 ghost use Rattle.mix_session.specs.Plain.{IsFree};
 
 use crate::condition::Condition;
@@ -130,11 +130,11 @@ fn end_there(stops: &Stops<'_>, world: &World) -> Option<End>
     ensures { result ≡ end_there stops.now world.now }
 {
     if is_at_stop(stops, world) {
-        Some(End::Break)
-    } else if is_awaited(stops.location, world) {
-        Some(End::Arrived)
-    } else {
-        None
+        return Some(End::Break);
+    }
+    match stops.location {
+        Some(location) if world.loc() == location => Some(End::Arrived),
+        _ => None,
     }
 }
 
@@ -163,17 +163,6 @@ fn has_cell(cells: &[Place], loc: u16) -> bool
     ensures { result ≡ list_any (λ p. p == loc) cells.now }
 {
     cells.iter().any(|place| place.number() == loc)
-}
-
-// Whether the location is the one that is waited for.
-#[inline(always)]
-fn is_awaited(location: Option<u16>, world: &World) -> bool
-    ensures { result ≡ is_awaited location world.now }
-{
-    match location {
-        Some(location) => world.loc() == location,
-        None => false,
-    }
 }
 
 /// The first of the conditions that a change meets, by whether it conflicts and by the marks before it, which are made those after it.

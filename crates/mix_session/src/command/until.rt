@@ -1,6 +1,6 @@
 //! `back until` and `forth until`: the nearest change that meets one of some conditions.
 
-ghost use Rattle.std.specs.Prelude.{◌≡◌, ◌≤◌, ◌<◌, ◌+◌, ℕ, IfErr, IfOk, true, false, length};
+ghost use Rattle.std.specs.Prelude.{◌≡◌, ◌≤◌, ◌<◌, ◌+◌, IfErr, IfOk, true, false, length};
 ghost use Rattle.mix_machine.specs.Part.{mark_before};
 ghost use Rattle.mix_session.specs.Prelude.{count_back, effect_of_back_until, effect_of_forth_until, is_met_by, is_reached_forth, least_below, HasEffect, BrokenOff, IsBefore, watched, is_met, is_conflict, last_conflicts, has_conflict, IsLast, Knows, AreMarks, back_by, forth_by, world_of};
 

@@ -1,7 +1,7 @@
 //! What may come next in a line, after the words so far.
 
 ghost use Rattle.std.specs.Prelude.{◌≡◌};
-ghost use Rattle.mix_session.specs.Completion.{if_first, one_value, two_values, after_until, after_steps, after_run, after_back, after_forth, after_set_word, after_set, after_show_word, after_show, after_command, next_after};
+ghost use Rattle.mix_session.specs.Completion.{if_first, one_value, two_values, after_until, after_run, after_back, after_forth, after_set, after_show, after_command, next_after};
 
 use crate::completion::until::after_conditions;
 use crate::conditions::Conditions;
@@ -44,17 +44,56 @@ pub(super) fn next_after(words: &mut Words) -> Next
     }
 }
 
+#[tactic(auto, unfolding(crate::specs::Completion::after_run, crate::specs::Completion::after_back, crate::specs::Completion::after_forth, crate::specs::Completion::after_set, crate::specs::Completion::after_show))]
 fn after_command(command: CommandWord, words: &mut Words) -> Next
     ensures { result ≡ after_command command words.old }
 {
     match command {
         CommandWord::Step | CommandWord::Trace | CommandWord::Goto => Next::Nothing,
-        CommandWord::Run => after_run(words),
-        CommandWord::Back => after_back(words),
-        CommandWord::Forth => after_forth(words),
-        CommandWord::Set => after_set(words),
+        CommandWord::Run => match words.next() {
+            None => Next::Nothing,
+            Some(_) => match words.next() {
+                None => Next::Until,
+                Some(word) if word.eq_ignore_ascii_case(b"until") => after_until(words),
+                Some(_) => Next::Nothing,
+            },
+        },
+        CommandWord::Back => match words.next() {
+            None => Next::Back,
+            Some(word) => match named(word) {
+                Some(BackWord::Until) => after_until(words),
+                Some(BackWord::All) | Some(BackWord::Break) | None => Next::Nothing,
+            },
+        },
+        CommandWord::Forth => match words.next() {
+            None => Next::Forth,
+            Some(word) => match named(word) {
+                Some(ForthWord::Until) => after_until(words),
+                Some(ForthWord::All) | None => Next::Nothing,
+            },
+        },
+        CommandWord::Set => match words.next() {
+            None => Next::Set,
+            Some(word) => match named(word) {
+                Some(SetWord::Register(_)) | Some(SetWord::Location) => one_value(words),
+                Some(SetWord::Cell) => two_values(words),
+                Some(SetWord::Toggle) => if_first(Next::Toggle, words),
+                Some(SetWord::Indicator) => if_first(Next::Indicator, words),
+                None => Next::Nothing,
+            },
+        },
         CommandWord::Break | CommandWord::Clear => if_first(Next::Place, words),
-        CommandWord::Show => after_show(words),
+        CommandWord::Show => match words.next() {
+            None => Next::Topic,
+            Some(word) => match named(word) {
+                Some(ShowWord::Cells) | Some(ShowWord::Code) | Some(ShowWord::Values) => {
+                    two_values(words)
+                }
+                Some(ShowWord::Value) => one_value(words),
+                Some(ShowWord::Writes) => after_conditions(1, words),
+                Some(_) | None => Next::Nothing,
+            },
+        },
     }
 }
 
@@ -80,116 +119,9 @@ fn two_values(words: &mut Words) -> Next
     }
 }
 
-#[tactic(auto, unfolding(crate::specs::Completion::after_run))]
-fn after_run(words: &mut Words) -> Next
-    ensures { result ≡ after_run words.old }
-{
-    match words.next() {
-        None => Next::Nothing,
-        Some(_) => after_steps(words),
-    }
-}
-
-fn after_steps(words: &mut Words) -> Next
-    ensures { result ≡ after_steps words.old }
-{
-    let Some(word) = words.next() else {
-        return Next::Until;
-    };
-    if word.eq_ignore_ascii_case(b"until") {
-        after_until(words)
-    } else {
-        Next::Nothing
-    }
-}
-
-#[tactic(auto, unfolding(crate::specs::Completion::after_back))]
-fn after_back(words: &mut Words) -> Next
-    ensures { result ≡ after_back words.old }
-{
-    let Some(word) = words.next() else {
-        return Next::Back;
-    };
-    match named(word) {
-        Some(BackWord::Until) => after_until(words),
-        Some(BackWord::All) | Some(BackWord::Break) | None => Next::Nothing,
-    }
-}
-
-#[tactic(auto, unfolding(crate::specs::Completion::after_forth))]
-fn after_forth(words: &mut Words) -> Next
-    ensures { result ≡ after_forth words.old }
-{
-    let Some(word) = words.next() else {
-        return Next::Forth;
-    };
-    match named(word) {
-        Some(ForthWord::Until) => after_until(words),
-        Some(ForthWord::All) | None => Next::Nothing,
-    }
-}
-
 #[tactic(auto, unfolding(crate::specs::Completion::after_until))]
 fn after_until(words: &mut Words) -> Next
     ensures { result ≡ after_until words.old }
 {
     after_conditions(Conditions::MOST, words)
-}
-
-#[tactic(auto, unfolding(crate::specs::Completion::after_set))]
-fn after_set(words: &mut Words) -> Next
-    ensures { result ≡ after_set words.old }
-{
-    let Some(word) = words.next() else {
-        return Next::Set;
-    };
-    match named(word) {
-        None => Next::Nothing,
-        Some(target) => after_set_word(target, words),
-    }
-}
-
-fn after_set_word(word: SetWord, words: &mut Words) -> Next
-    ensures { result ≡ after_set_word word words.old }
-{
-    match word {
-        SetWord::Register(_) | SetWord::Location => one_value(words),
-        SetWord::Cell => two_values(words),
-        SetWord::Toggle => if_first(Next::Toggle, words),
-        SetWord::Indicator => if_first(Next::Indicator, words),
-    }
-}
-
-#[tactic(auto, unfolding(crate::specs::Completion::after_show))]
-fn after_show(words: &mut Words) -> Next
-    ensures { result ≡ after_show words.old }
-{
-    let Some(word) = words.next() else {
-        return Next::Topic;
-    };
-    match named(word) {
-        None => Next::Nothing,
-        Some(topic) => after_show_word(topic, words),
-    }
-}
-
-fn after_show_word(word: ShowWord, words: &mut Words) -> Next
-    ensures { result ≡ after_show_word word words.old }
-{
-    match word {
-        ShowWord::Cells | ShowWord::Code | ShowWord::Values => two_values(words),
-        ShowWord::Value => one_value(words),
-        ShowWord::Writes => after_conditions(1, words),
-        ShowWord::Registers
-        | ShowWord::Clock
-        | ShowWord::Breaks
-        | ShowWord::Changes
-        | ShowWord::Unit
-        | ShowWord::All
-        | ShowWord::Symbols
-        | ShowWord::Last
-        | ShowWord::Diff
-        | ShowWord::Counts
-        | ShowWord::Conflicts => Next::Nothing,
-    }
 }

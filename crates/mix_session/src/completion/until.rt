@@ -1,7 +1,7 @@
 //! What may come next in what a command waits for: conditions, with the word `or` between one and the next.
 
 ghost use Rattle.std.specs.Prelude.{◌≡◌, ◌+◌, ℕ, List, MatchOption};
-ghost use Rattle.mix_session.specs.Completion.{after_condition, after_conditions, after_operand, after_until_word, or_others};
+ghost use Rattle.mix_session.specs.Completion.{after_condition, after_conditions, after_operand, or_others};
 ghost use Rattle.mix_session.specs.declared.completion.after.Next.{Next as ANext};
 
 use crate::completion::after::Next;
@@ -44,23 +44,14 @@ fn after_condition(words: &mut Words) -> Option<Next>
     };
     match named(word) {
         None => Some(Next::Nothing),
-        Some(keyword) => after_until_word(keyword, words),
-    }
-}
-
-fn after_until_word(word: UntilWord, words: &mut Words) -> Option<Next>
-    ensures { (whole : List (List ℕ) → ANext) → MatchOption result (after_until_word whole word words.old ≡ whole words.new)
-        (λ next. after_until_word whole word words.old ≡ next) }
-{
-    match word {
-        UntilWord::Set(SetWord::Cell) | UntilWord::Set(SetWord::Location) => {
+        Some(UntilWord::Set(SetWord::Cell)) | Some(UntilWord::Set(SetWord::Location)) => {
             after_operand(Next::Value, words)
         }
-        UntilWord::Unit => after_operand(Next::Nothing, words),
-        UntilWord::Set(SetWord::Register(_))
-        | UntilWord::Set(SetWord::Toggle)
-        | UntilWord::Set(SetWord::Indicator)
-        | UntilWord::Conflict => None,
+        Some(UntilWord::Unit) => after_operand(Next::Nothing, words),
+        Some(UntilWord::Set(SetWord::Register(_)))
+        | Some(UntilWord::Set(SetWord::Toggle))
+        | Some(UntilWord::Set(SetWord::Indicator))
+        | Some(UntilWord::Conflict) => None,
     }
 }
 

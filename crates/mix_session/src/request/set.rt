@@ -1,7 +1,7 @@
 //! What `set` sets.
 
 ghost use Rattle.std.specs.Prelude.{◌≡◌, Ok, Err};
-ghost use Rattle.mix_session.specs.Setting.{change_of, change_in, one_value, setting_of};
+ghost use Rattle.mix_session.specs.Setting.{change_in, one_value, setting_of};
 
 use crate::fault::Refusal;
 use crate::keyword::SetWord;
@@ -24,7 +24,12 @@ pub(crate) fn read_change<N: Names>(
     let target: SetWord = first_keyword(words)?;
     match target {
         SetWord::Register(register) => read_setting(Part::Register(register), words, names, here),
-        SetWord::Cell => read_cell(words, names, here),
+        SetWord::Cell => {
+            let (at, value) = two_words(words)?;
+            let at = expression_in(at, names, here)?;
+            let value = word_in(value, names, here)?;
+            Ok(Change::SetCell(place_of(at)?, value))
+        }
         SetWord::Location => read_setting(Part::Loc, words, names, here),
         SetWord::Toggle => read_setting(Part::Over, words, names, here),
         SetWord::Indicator => read_setting(Part::Cmp, words, names, here),
@@ -56,14 +61,4 @@ fn one_value<N: Names>(words: &mut Words, names: &N, here: Word) -> Result<Word,
     ensures { result ≡ one_value (N.names names.now) here words.old }
 {
     word_in(one_word(words)?, names, here)
-}
-
-// A cell, and the word that it gets.
-fn read_cell<N: Names>(words: &mut Words, names: &N, here: Word) -> Result<Change, Refusal>
-    ensures { result ≡ change_of (N.names names.now) here SetWord.Cell words.old }
-{
-    let (at, value) = two_words(words)?;
-    let at = expression_in(at, names, here)?;
-    let value = word_in(value, names, here)?;
-    Ok(Change::SetCell(place_of(at)?, value))
 }

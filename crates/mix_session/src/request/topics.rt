@@ -1,7 +1,7 @@
 //! What `show` is to show: its keywords, and the words that each takes after it.
 
 ghost use Rattle.std.specs.Prelude.{◌≡◌, Ok, Err, refl};
-ghost use Rattle.mix_session.specs.ShowRequest.{show_name, all_shows, last_topic, writes_topic, diff_topic, alone, range_of, cells_of, code_of, values_of, value_of, unit_topic, topic_in};
+ghost use Rattle.mix_session.specs.ShowRequest.{show_name, all_shows, alone, range_of, topic_in};
 ghost use Rattle.mix_session.specs.declared.request.topics.ShowWord.TheVariants as show;
 
 use crate::condition::Condition;
@@ -111,19 +111,33 @@ pub(crate) fn read_topic<N: Names>(
     let topic: ShowWord = first_keyword(words)?;
     match topic {
         ShowWord::Registers => alone(Topic::Registers, words),
-        ShowWord::Cells => read_cells(words, names, here),
+        ShowWord::Cells => {
+            let (first, last) = read_range(words, names, here)?;
+            Ok(Topic::Cells(first, last))
+        }
         ShowWord::Clock => alone(Topic::Clock, words),
         ShowWord::Breaks => alone(Topic::Breaks, words),
         ShowWord::Changes => alone(Topic::Changes, words),
-        ShowWord::Unit => read_unit(words),
+        ShowWord::Unit => Ok(Topic::Unit(one_unit(words)?)),
         ShowWord::All => alone(Topic::All, words),
-        ShowWord::Code => read_code(words, names, here),
+        ShowWord::Code if words.is_end() => {
+            let place = place_of(here)?;
+            Ok(Topic::Code(place, place))
+        }
+        ShowWord::Code => {
+            let (first, last) = read_range(words, names, here)?;
+            Ok(Topic::Code(first, last))
+        }
         ShowWord::Value => Ok(Topic::Value(word_in(one_word(words)?, names, here)?)),
-        ShowWord::Values => read_values(words, names, here),
+        ShowWord::Values if words.is_end() => Ok(Topic::Values),
+        ShowWord::Values => {
+            let (first, last) = read_range(words, names, here)?;
+            Ok(Topic::CellValues(first, last))
+        }
         ShowWord::Symbols => alone(Topic::Symbols, words),
-        ShowWord::Last => read_last(words),
-        ShowWord::Writes => read_writes(words, names, here),
-        ShowWord::Diff => read_diff(words),
+        ShowWord::Last => Ok(Topic::Last(from_one(number_in(one_word(words)?)?)?)),
+        ShowWord::Writes => Ok(Topic::Writes(read_condition(words, names, here)?)),
+        ShowWord::Diff => Ok(Topic::Diff(number_in(one_word(words)?)?)),
         ShowWord::Counts => alone(Topic::Counts, words),
         ShowWord::Conflicts => alone(Topic::Conflicts, words),
     }
@@ -135,36 +149,6 @@ fn alone(topic: Topic, words: &mut Words) -> Result<Topic, Refusal>
 {
     no_word(words)?;
     Ok(topic)
-}
-
-fn read_cells<N: Names>(words: &mut Words, names: &N, here: Word) -> Result<Topic, Refusal>
-    ensures { result ≡ cells_of (N.names names.now) here words.old }
-{
-    let (first, last) = read_range(words, names, here)?;
-    Ok(Topic::Cells(first, last))
-}
-
-fn read_code<N: Names>(words: &mut Words, names: &N, here: Word) -> Result<Topic, Refusal>
-    ensures { result ≡ code_of (N.names names.now) here words.old }
-{
-    if words.is_end() {
-        let place = place_of(here)?;
-        Ok(Topic::Code(place, place))
-    } else {
-        let (first, last) = read_range(words, names, here)?;
-        Ok(Topic::Code(first, last))
-    }
-}
-
-fn read_values<N: Names>(words: &mut Words, names: &N, here: Word) -> Result<Topic, Refusal>
-    ensures { result ≡ values_of (N.names names.now) here words.old }
-{
-    if words.is_end() {
-        Ok(Topic::Values)
-    } else {
-        let (first, last) = read_range(words, names, here)?;
-        Ok(Topic::CellValues(first, last))
-    }
 }
 
 // The cells from one to another.
@@ -180,31 +164,4 @@ fn read_range<N: Names>(words: &mut Words, names: &N, here: Word) -> Result<(Pla
     } else {
         Ok((from, to))
     }
-}
-
-fn read_unit(words: &mut Words) -> Result<Topic, Refusal>
-    ensures { result ≡ unit_topic words.old }
-{
-    Ok(Topic::Unit(one_unit(words)?))
-}
-
-fn read_last(words: &mut Words) -> Result<Topic, Refusal>
-    ensures { result ≡ last_topic words.old }
-{
-    let count = from_one(number_in(one_word(words)?)?)?;
-    Ok(Topic::Last(count))
-}
-
-fn read_writes<N: Names>(words: &mut Words, names: &N, here: Word) -> Result<Topic, Refusal>
-    ensures { result ≡ writes_topic (N.names names.now) here words.old }
-{
-    let condition = read_condition(words, names, here)?;
-    Ok(Topic::Writes(condition))
-}
-
-fn read_diff(words: &mut Words) -> Result<Topic, Refusal>
-    ensures { result ≡ diff_topic words.old }
-{
-    let number = number_in(one_word(words)?)?;
-    Ok(Topic::Diff(number))
 }

@@ -1,7 +1,7 @@
 //! What is waited for after `until`.
 
 ghost use Rattle.std.specs.Prelude.{◌≡◌, ◌≤◌, ◌<◌, ◌+◌, [], List, ℕ, Result, Ok, Err, IfOk, IfErr, length, take, drop, if◌then◌else◌};
-ghost use Rattle.mix_session.specs.Operand.{one_place, one_unit};
+ghost use Rattle.mix_session.specs.Operand.{one_place};
 ghost use Rattle.mix_session.specs.Setting.{condition_of, condition_in};
 ghost use Rattle.mix_session.specs.Conditions.{most_conditions};
 ghost use Rattle.mix_session.specs.Until.{operands_of, first_condition, after_first, with_others, with_read, others_in, conditions_in};
@@ -14,7 +14,7 @@ use crate::fault::Refusal;
 use crate::keyword::{SetWord, UntilWord, named};
 use crate::request::operand::{no_word, number_in, place_named, unit_of};
 use mix_lines::Words;
-use mix_machine::{Part, Place, UnitNo, Word};
+use mix_machine::{Part, Place, Word};
 use mixal_text::Names;
 
 /// The conditions that the words left name, with `or` between one and the next.
@@ -143,7 +143,13 @@ fn read_operand<N: Names>(
             Ok(Condition::Alters(Part::Cell(place)))
         }
         UntilWord::Set(SetWord::Location) => Ok(Condition::At(next_place(words, names, here)?)),
-        UntilWord::Unit => Ok(Condition::Alters(Part::Unit(next_unit(words)?))),
+        UntilWord::Unit => match words.next() {
+            None => Err(Refusal::BadArgument),
+            Some(word) => {
+                let unit = unit_of(number_in(word)?)?;
+                Ok(Condition::Alters(Part::Unit(unit)))
+            }
+        },
         UntilWord::Conflict => Ok(Condition::Conflicts),
     }
 }
@@ -157,16 +163,4 @@ fn next_place<N: Names>(words: &mut Words, names: &N, here: Word) -> Result<Plac
         None => Err(Refusal::BadArgument),
         Some(word) => place_named(word, names, here),
     }
-}
-
-// The unit that the next word names.
-fn next_unit(words: &mut Words) -> Result<UnitNo, Refusal>
-    ensures unit { result ≡ one_unit (take 1 words.old) }
-    ensures left { words.new ≡ drop 1 words.old }
-{
-    let Some(word) = words.next() else {
-        return Err(Refusal::BadArgument);
-    };
-    let number = number_in(word)?;
-    unit_of(number)
 }

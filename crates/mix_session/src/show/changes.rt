@@ -1,7 +1,6 @@
 //! The lines of the changes: what each did, and what it altered.
 
 ghost use Rattle.std.specs.Prelude.{◌≡◌, ◌+◌, ◌++◌, OnOk, IfOk, length, string_bytes};
-ghost use Rattle.mix_machine.specs.declared.old.Change.TheVariants.{Step};
 ghost use Rattle.mix_session.specs.Altered.{altered_by};
 ghost use Rattle.mix_session.specs.Change.{change_at, change_text, change_columns, change_front, change_line, change_line_at, diff_text};
 ghost use Rattle.mix_session.specs.Differences.{differences};
@@ -124,7 +123,13 @@ pub(crate) fn change_text(
     ensures { IfOk result (λ s. string_bytes s ≡ change_text world.now change.now) }
 {
     match *change {
-        Change::Step => instruction_at(alloc, world),
+        Change::Step => match Place::of(world.loc()) {
+            None => Ok(String::new(alloc)),
+            Some(place) => {
+                let instruction = Instruction(world.cell(place));
+                Ok(format!(in alloc; "{instruction}")?)
+            }
+        },
         Change::SetReg(register, _) => {
             let name = register.name();
             Ok(format!(in alloc; "set {name}")?)
@@ -143,19 +148,6 @@ pub(crate) fn change_text(
         Change::Clear(place) => {
             let location = Location(place.number());
             Ok(format!(in alloc; "clear {location}")?)
-        }
-    }
-}
-
-// The instruction at the location.
-fn instruction_at(alloc: Global, world: &World) -> Result<String, AllocError>
-    ensures { IfOk result (λ s. string_bytes s ≡ change_text world.now Step) }
-{
-    match Place::of(world.loc()) {
-        None => Ok(String::new(alloc)),
-        Some(place) => {
-            let instruction = Instruction(world.cell(place));
-            Ok(format!(in alloc; "{instruction}")?)
         }
     }
 }

@@ -2,12 +2,12 @@
 
 ghost use Rattle.std.specs.Prelude.{◌≡◌, ◌++◌, OnOk, IfOk, codes};
 ghost use Rattle.mixal_asm.specs.Prelude.{source_value, source_at};
-ghost use Rattle.mix_session.specs.ShowCode.{is_overwritten, mark_text, line_number, line_bytes, line_text, code_text, code_line, codes_text};
+ghost use Rattle.mix_session.specs.ShowCode.{is_overwritten, line_number, line_text, code_text, code_line, codes_text};
 
 use crate::show::cells::place_at;
 use crate::show::columns::{add_blanks, add_left, add_right};
 use crate::show::lines::{Lines, add_lines};
-use mix_machine::{Place, Word, World};
+use mix_machine::{Place, World};
 use mix_word::{Instruction, Location};
 use mixal_asm::{Program, Source};
 use std::alloc::{AllocError, Global};
@@ -84,16 +84,9 @@ impl Code<'_> {
         ensures { OnOk result (text.new.items ≡ text.old.items ++ (codes "  " ++ line_text (is_overwritten self.now.program.now self.now.world.now place) (source_value source.now))) }
     {
         text.extend_from_slice(b"  ")?;
-        add_line(alloc, text, self.is_overwritten(place), source)
-    }
-
-    // Whether a cell holds another word than the last one that the source put there.
-    fn is_overwritten(&self, place: Place) -> bool
-        ensures { result ≡ is_overwritten self.now.program.now self.now.world.now place }
-    {
         match self.program.word_at(place) {
-            None => false,
-            Some(put) => !put.is_same(self.world.cell(place)),
+            None => add_line(alloc, text, false, source),
+            Some(put) => add_line(alloc, text, !put.is_same(self.world.cell(place)), source),
         }
     }
 }
@@ -111,7 +104,16 @@ fn add_line(
     add_number(alloc, text, source)?;
     text.push(if overwritten { b'*' } else { b' ' })?;
     text.push(b' ')?;
-    add_bytes(text, source)
+    match source {
+        Source::Line(_, line) => text.extend_from_slice(line),
+        Source::Literal(literal) => {
+            text.push(b'=')?;
+            text.extend_from_slice(literal)?;
+            text.push(b'=')?;
+            Ok(())
+        }
+        Source::Name(symbol) => text.extend_from_slice(symbol.name()),
+    }
 }
 
 // The number of a line, which no inserted line has.
@@ -124,21 +126,5 @@ fn add_number(alloc: Global, text: &mut Vec<u8>, source: &Source) -> Result<(), 
             add_right(text, 5, number.as_bytes())
         }
         Source::Literal(_) | Source::Name(_) => add_blanks(text, 5),
-    }
-}
-
-// The bytes of a line.
-fn add_bytes(text: &mut Vec<u8>, source: &Source) -> Result<(), AllocError>
-    ensures { OnOk result (text.new.items ≡ text.old.items ++ line_bytes (source_value source.now)) }
-{
-    match source {
-        Source::Line(_, line) => text.extend_from_slice(line),
-        Source::Literal(literal) => {
-            text.push(b'=')?;
-            text.extend_from_slice(literal)?;
-            text.push(b'=')?;
-            Ok(())
-        }
-        Source::Name(symbol) => text.extend_from_slice(symbol.name()),
     }
 }

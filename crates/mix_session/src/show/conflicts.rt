@@ -3,7 +3,7 @@
 ghost use Rattle.std.specs.Prelude.{◌≡◌, ◌<◌, ◌+◌, ◌++◌, Some, OnOk, IfOk, length, string_bytes, take, [], ◌∷◌};
 ghost use Rattle.undo_core.specs.Replay.{replay};
 ghost use Rattle.mix_machine.specs.Do.{does};
-ghost use Rattle.mix_session.specs.Conflicts.{conflict_at, conflict_column, conflict_line_at, conflict_text, conflicts_text, output_text, transfer_text, use_text};
+ghost use Rattle.mix_session.specs.Conflicts.{conflict_at, conflict_column, conflict_line_at, conflict_text, conflicts_text, transfer_text, use_text};
 
 use crate::altered::{Worlds, altered_by};
 use crate::conflicts::pass;
@@ -125,20 +125,14 @@ fn transfer_text(way: Direction, kind: UnitKind) -> &'static str
 {
     match way {
         Direction::Input => " reads into it until ",
-        Direction::Output => output_text(kind),
-    }
-}
-
-fn output_text(kind: UnitKind) -> &'static str
-    ensures { result.now ≡ output_text kind }
-{
-    match kind {
-        UnitKind::Printer => " prints it until ",
-        UnitKind::Tape
-        | UnitKind::Disk
-        | UnitKind::CardReader
-        | UnitKind::CardPunch
-        | UnitKind::Typewriter
-        | UnitKind::PaperTape => " writes it until ",
+        Direction::Output => match kind {
+            UnitKind::Printer => " prints it until ",
+            UnitKind::Tape
+            | UnitKind::Disk
+            | UnitKind::CardReader
+            | UnitKind::CardPunch
+            | UnitKind::Typewriter
+            | UnitKind::PaperTape => " writes it until ",
+        },
     }
 }

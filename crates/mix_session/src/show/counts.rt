@@ -54,36 +54,23 @@ impl Lines for CountLines<'_> {
     ghost line = { λ l p. count_line l.code.program.now l.code.world.now (tally_in l.cells.now p) p };
 
     // The line of a cell, if it was executed or its line is an instruction's.
+    #[tactic(auto, unfolding(crate::specs::Counts::tally_line))]
     fn add(&self, alloc: Global, text: &mut Vec<u8>, number: u16) -> Result<(), AllocError> {
         let (tally, place) = (tally_in(self.cells, number), place_at(number));
         if tally.count == 0 && !is_code(self.code.program, place) {
             return Ok(());
         }
-        self.add_tally_line(alloc, text, tally, place)
-    }
-}
-
-impl CountLines<'_> {
-    // The line of a cell.
-    #[tactic(auto, unfolding(crate::specs::Counts::tally_line))]
-    fn add_tally_line(
-        &self,
-        alloc: Global,
-        text: &mut Vec<u8>,
-        tally: Tally,
-        place: Place,
-    ) -> Result<(), AllocError>
-        ensures { OnOk result (text.new.items ≡ text.old.items ++ tally_line self.now.code.program.now self.now.code.world.now tally place) }
-    {
         add_tally(alloc, text, tally)?;
-        let location = Location(place.number());
+        let location = Location(number);
         let location = format!(in alloc; "{location}")?;
         text.extend_from_slice(location.as_bytes())?;
         self.add_source(alloc, text, place)?;
         text.push(b'\n')?;
         Ok(())
     }
+}
 
+impl CountLines<'_> {
     // The line of the source that a cell comes from, if it comes from one.
     fn add_source(&self, alloc: Global, text: &mut Vec<u8>, place: Place) -> Result<(), AllocError>
         ensures { OnOk result (text.new.items ≡ text.old.items ++ source_text (is_overwritten self.now.code.program.now self.now.code.world.now place) (source_at self.now.code.program.now place)) }

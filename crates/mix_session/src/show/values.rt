@@ -1,7 +1,7 @@
 //! What `show value` and `show values` write: words as bytes, as numbers and in characters.
 
 ghost use Rattle.std.specs.Prelude.{◌≡◌, ◌++◌, OnOk, IfOk};
-ghost use Rattle.mix_session.specs.ShowValue.{columns_text, value_line, short_letters, short_line, register_columns, register_values, cell_values, values_text, cell_values_text};
+ghost use Rattle.mix_session.specs.ShowValue.{columns_text, value_line, register_values, cell_values, values_text, cell_values_text};
 
 use crate::show::cells::place_at;
 use crate::show::columns::{add_left, add_right};
@@ -77,7 +77,12 @@ fn add_register(
     match register {
         Reg::A | Reg::X => add_word(alloc, text, word),
         Reg::I1 | Reg::I2 | Reg::I3 | Reg::I4 | Reg::I5 | Reg::I6 | Reg::J => {
-            add_short(alloc, text, word)
+            let (short, letters) = (Short(word), ShortLetters(word));
+            let (bytes, letters) = (
+                format!(in alloc; "{short}")?,
+                format!(in alloc; "{letters}")?,
+            );
+            add_columns(alloc, text, bytes.as_bytes(), word, letters.as_bytes())
         }
     }
 }
@@ -88,18 +93,6 @@ fn add_word(alloc: Global, text: &mut Vec<u8>, word: Word) -> Result<(), AllocEr
 {
     let (letters, bytes) = (Letters(word), format!(in alloc; "{word}")?);
     let letters = format!(in alloc; "{letters}")?;
-    add_columns(alloc, text, bytes.as_bytes(), word, letters.as_bytes())
-}
-
-// A word of two bytes.
-fn add_short(alloc: Global, text: &mut Vec<u8>, word: Word) -> Result<(), AllocError>
-    ensures { OnOk result (text.new.items ≡ text.old.items ++ short_line word) }
-{
-    let (short, letters) = (Short(word), ShortLetters(word));
-    let (bytes, letters) = (
-        format!(in alloc; "{short}")?,
-        format!(in alloc; "{letters}")?,
-    );
     add_columns(alloc, text, bytes.as_bytes(), word, letters.as_bytes())
 }
 

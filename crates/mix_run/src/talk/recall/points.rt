@@ -5,14 +5,12 @@ ghost use Rattle.mix_run.specs.Points.{with_points};
 ghost use Rattle.mix_run.specs.Recall.{recalled_asked};
 ghost use Rattle.mix_run.specs.declared.talk.asked.Point.TheVariants as point;
 
-use crate::talk::aside::say;
 use crate::talk::asked::{Point, with_point_if};
 use crate::talk::points::{pieces, with_points};
 use crate::talk::recall::{MOST, Recall};
 use mix_machine::Place;
 use mix_refused::Memory;
 use mix_session::Session;
-use mix_stream::Out;
 
 impl Recall {
     /// What the points make of it.
@@ -30,12 +28,12 @@ impl Recall {
     }
 
     /// What is asked of the points is done: one that a run cannot wait for with the others is not set, and a person is told so.
-    pub(crate) fn change_points<E: Out>(
+    pub(crate) fn change_points(
         &mut self,
         session: &Session,
         typed: &[u8],
         asked: Point,
-        errors: &mut E,
+        note: &mut Vec<u8>,
     ) -> Result<(), Memory>
         requires { asked ≢ point.Other }
         ensures { OnOk result (self.new ≡ recalled_asked asked session.now typed.now self.old) }
@@ -45,7 +43,7 @@ impl Recall {
                 match with_point_if(self.alloc, session, typed, place, &self.watch, &self.points)? {
                     Some(points) => self.points = points,
                     None => {
-                        say(MOST, errors);
+                        note.extend_from_slice(MOST)?;
                         return Ok(());
                     }
                 }
@@ -56,7 +54,7 @@ impl Recall {
             Point::ClearAll => self.points.clear(),
             Point::Other => unreachable!(),
         }
-        say("ok\n", errors);
+        note.extend_from_slice(b"ok\n")?;
         Ok(())
     }
 }

@@ -1,7 +1,7 @@
 use Rattle.std.proofs.Common.{◌≡◌, Some, length, map}
-use Rattle.std.specs.Prelude.{option_map, string_bytes}
+use Rattle.std.specs.Prelude.{string_bytes}
 use Rattle.mix_run.specs.Opening.{Files}
-use Rattle.mix_tool.proofs.CheckLemmas.{ReadSoFar, SoFar}
+use Rattle.mix_tool.proofs.CheckLemmas.{SoFar}
 use Rattle.mix_tool.proofs.check.report_files.Given as goal
 
 -- the files before those that are left were opened and reported
@@ -10,7 +10,6 @@ invariant-loop-rest g l = record {
   same : g.O.Opener.holds l.files ≡ g.O.Opener.holds l.fn.files;
   so_far : (all : Files) → g.O.Opener.holds l.fn.files ≡ Some all
       → SoFar all l.json (map string_bytes l.fn.sources) (map string_bytes l.rest) (g.O.Opener.asked l.fn.files) (g.O.Opener.asked l.files) l.reports;
-  read : ReadSoFar (map string_bytes l.fn.sources) (map string_bytes l.rest) (option_map (λ n. n.now) l.file);
 }
 
 abbrev pub decreases-loop-rest : goal.decreases-loop-rest

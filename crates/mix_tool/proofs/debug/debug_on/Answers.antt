@@ -1,7 +1,7 @@
 -- A session by a script and one by the lines of the input are those of the texts that were opened.
 use Rattle.std.proofs.Common.{◌∙◌, ap, inl}
 use Rattle.mix_tool.specs.Ending.{status_of_run}
-use Rattle.mix_tool.proofs.EndingLemmas.{among_same, run_range, run_well}
+use Rattle.mix_tool.proofs.EndingLemmas.{run_range, run_well}
 use Rattle.mix_tool.proofs.debug.debug_on.Goals as goal
 
 pub returns-in-Some-clause-range : goal.returns-in-Some-clause-range
@@ -19,12 +19,11 @@ returns-in-Some-clause-quiet g c talks n =
 pub returns-in-Some-clause-runs : goal.returns-in-Some-clause-runs
 returns-in-Some-clause-runs g c all given e holds =
     let met = c.run_debug-outcome.ensures.output given.source given.deck given.script holds.source holds.deck holds.script in
-    let file = among_same _ _ _ _ _ _ c.as_deref-deck.ensures.value c.as_deref-last.ensures.value (rw c.as_str-name.ensures.value at c.unread-file.ensures.among) in
-    rw c.in-Some.is (c.run_debug-outcome.result, _, rw c.is_some-given.ensures at met, c.status.ensures.status, rw c.in-Some.is at file, c.status.ensures.told)
+    rw c.in-Some.is (c.run_debug-outcome.result, rw c.is_some-given.ensures at met, c.status.ensures.status)
 
 pub returns-clause-runs : goal.returns-clause-runs
 returns-clause-runs g c all given e holds =
     let talks = c.run_talk-outcome.ensures.talks all given.source given.deck in
     rw c.in-None.is (λ t there.
     let met = talks t holds.source holds.deck there (inl e) in
-    (c.run_talk-outcome.result, rw (c.is_some-given.ensures, c.as_str-name.ensures.value) at met, c.status_beside.ensures.status))
+    (c.run_talk-outcome.result, rw (c.is_some-given.ensures, c.as_str-name.ensures.value) at met, c.status-in-None.ensures.status))

@@ -1,5 +1,5 @@
 -- The run of a plan is that of its texts.
-use Rattle.std.proofs.Common.{List, None, ℕ, ap, inl, refl, subst, sym, ◌∙◌}
+use Rattle.std.proofs.Common.{List, ℕ, ap, subst, sym, ◌∙◌}
 use Rattle.mix_tool.specs.Ending.{Creates}
 use Rattle.mix_tool.specs.Plan.{creates_of}
 use Rattle.mix_tool.proofs.CheckLemmas.{asks-nothing}
@@ -8,24 +8,14 @@ use Rattle.mix_tool.proofs.plan.run_on.Goals as goal
 
 pub returns-in-Bundle-clause-done : goal.returns-in-Bundle-clause-done
 returns-in-Bundle-clause-done g c all given e holds =
-    rw c.in-Bundle.is (λ b there.
-    (c.run_bundle-outcome.result, None, c.run_bundle-outcome.ensures.output b there, c.status.ensures.status, refl, c.status.ensures.told))
+    rw c.in-Bundle.is (λ b there. (c.run_bundle-outcome.result, c.run_bundle-outcome.ensures.output b there, c.status.ensures.status))
 
 pub returns-in-List-clause-done : goal.returns-in-List-clause-done
 returns-in-List-clause-done g c all given e holds =
-    rw c.in-List.is (
-      c.run_list-outcome.result,
-      _,
-      c.run_list-outcome.ensures.output given.source holds.source,
-      c.status-in-List.ensures.status,
-      inl c.deref.ensures,
-      c.status-in-List.ensures.told,
-    )
+    rw c.in-List.is (c.run_list-outcome.result, c.run_list-outcome.ensures.output given.source holds.source, c.status-in-List.ensures.status)
 
 pub returns-in-Typeset-clause-done : goal.returns-in-Typeset-clause-done
-returns-in-Typeset-clause-done g c all given e holds =
-    rw c.in-Typeset.is
-    (c.run_typeset-outcome.result, _, c.status-in-Typeset.ensures.status, inl c.deref-in-Typeset.ensures, c.status-in-Typeset.ensures.told)
+returns-in-Typeset-clause-done g c all given e holds = rw c.in-Typeset.is tt
 
 pub returns-in-Debug-clause-opened : goal.returns-in-Debug-clause-opened
 returns-in-Debug-clause-opened g c all e = rw (c.in-Debug.is, c.debug_on.ensures.unasked) (asks-nothing _)

@@ -14,8 +14,8 @@ returns-in-Ok-clause-opened g c all e =
 pub returns-in-Ok-clause-done : goal.returns-in-Ok-clause-done
 returns-in-Ok-clause-done g c all e =
     let plan = c.args.plan.now in
-    let before = seen g.R.In.rest g.W.Out.told g.E.Out.told g.E.Out.failed (g.O.Opener.refusal c.args.files.now) c.args.streams.now in
-    let after = seen g.R.In.rest g.W.Out.told g.E.Out.told g.E.Out.failed (g.O.Opener.refusal c.run_on.new.files) c.run_on.new.streams in
+    let before = seen g.R.In.rest g.W.Out.told (g.O.Opener.refusal c.args.files.now) c.args.streams.now in
+    let after = seen g.R.In.rest g.W.Out.told (g.O.Opener.refusal c.run_on.new.files) c.run_on.new.streams in
     let here = c.open_texts.ensures.same ∙ e in
     let both = plan-opened all (in_order (names_in c.names_in.result)) (in_order (names_of plan)) (sources_of plan) _ _ _
     (ap in_order c.names_in.ensures) (c.in-Ok.ensures.opened all e) (c.run_on.ensures.opened all here) in
@@ -27,8 +27,8 @@ returns-in-Ok-clause-done g c all e =
 pub returns-in-Err-clause-done : goal.returns-in-Err-clause-done
 returns-in-Err-clause-done g c all e =
     let plan = c.args.plan.now in
-    let before = seen g.R.In.rest g.W.Out.told g.E.Out.told g.E.Out.failed (g.O.Opener.refusal c.args.files.now) c.args.streams.now in
-    let after = seen g.R.In.rest g.W.Out.told g.E.Out.told g.E.Out.failed (g.O.Opener.refusal c.open_texts.new.files) (record {
+    let before = seen g.R.In.rest g.W.Out.told (g.O.Opener.refusal c.args.files.now) c.args.streams.now in
+    let after = seen g.R.In.rest g.W.Out.told (g.O.Opener.refusal c.open_texts.new.files) (record {
       talker = c.args.streams.now.talker;
       input = c.args.streams.now.input;
       out = c.args.streams.now.out;
@@ -39,13 +39,13 @@ returns-in-Err-clause-done g c all e =
     (ap in_order c.names_in.ensures) (c.in-Err.ensures.missing all e) in
     done-as (missing_of all (files_of plan)) (Some found)
     (RunsOn all plan (given_of all (names_of plan)) c.args.streams.now.talker c.tell_not_opened.result before after) c.tell_not_opened.result before after missing.1
-    (c.tell_not_opened.ensures.status, refl, refl, c.tell_not_opened.ensures.told)
+    (c.tell_not_opened.ensures, refl, refl)
 
 pub returns-in-Ok-clause-created : goal.returns-in-Ok-clause-created
 returns-in-Ok-clause-created g c names e = rw c.open_texts.ensures.unsaved.0 at (c.run_on.ensures.created names e)
 
 pub returns-in-Err-clause-created : goal.returns-in-Err-clause-created
-returns-in-Err-clause-created g c names e = creates-none names _ _ _ c.tell_not_opened.ensures.status c.open_texts.ensures.unsaved.0
+returns-in-Err-clause-created g c names e = creates-none names _ _ _ c.tell_not_opened.ensures c.open_texts.ensures.unsaved.0
 
 pub returns-in-Ok-clause-saved : goal.returns-in-Ok-clause-saved
 returns-in-Ok-clause-saved g c all e =
@@ -53,7 +53,7 @@ returns-in-Ok-clause-saved g c all e =
     rw c.open_texts.ensures.unsaved.1 at (c.run_on.ensures.saved (given_of all (names_of c.args.plan.now)) holds)
 
 pub returns-in-Err-clause-saved : goal.returns-in-Err-clause-saved
-returns-in-Err-clause-saved g c all e = saves-none c.args.plan.now _ _ _ _ c.tell_not_opened.ensures.status c.open_texts.ensures.unsaved.1
+returns-in-Err-clause-saved g c all e = saves-none c.args.plan.now _ _ _ _ c.tell_not_opened.ensures c.open_texts.ensures.unsaved.1
 
 pub returns-in-Ok-clause-all_saved : goal.returns-in-Ok-clause-all_saved
 returns-in-Ok-clause-all_saved g c names e well = c.run_on.ensures.all_saved names e well ∙ c.open_texts.ensures.unsaved.2

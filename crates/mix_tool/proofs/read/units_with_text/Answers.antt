@@ -1,4 +1,4 @@
--- The lines of a file, if one is named.
+-- The lines of a text, if it is given.
 use Rattle.std.proofs.Common.{◌∙◌, ap, subst}
 use Rattle.mix_machine.specs.units.deck.Deck.{text_of_unit}
 use Rattle.mix_run.specs.UnitsRead.{GivesUnits}
@@ -7,10 +7,10 @@ use Rattle.mix_tool.proofs.read.units_with_text.Goals as goal
 
 pub returns-in-Cards-clause-units : goal.returns-in-Cards-clause-units
 returns-in-Cards-clause-units g c t ht =
-    let same = ap (text_of_unit c.args.units 16) (c.deref.ensures.value ∙ c.in-Ok.ensures.whole t ht) ∙ text_of-take c.args.units 16 t in
-    rw (c.in-Some.is, c.in-Cards.is, c.of_file.ensures.answer) (subst (λ r. GivesUnits r c.with_cards.result) same c.with_cards.ensures.units)
+    let same = ap (text_of_unit c.args.units 16) (c.deref.ensures.value ∙ (c.in-Ok.ensures.whole t ht).0) ∙ text_of-take c.args.units 16 t in
+    rw (c.if-not-given.false, c.in-Cards.is) (subst (λ r. GivesUnits r c.with_cards.result) same c.with_cards.ensures.units)
 
-pub returns-in-Ok-clause-units : goal.returns-in-Ok-clause-units
-returns-in-Ok-clause-units g c t ht =
-    let same = ap (text_of_unit c.args.units 19) (c.deref-in-Typewriter.ensures.value ∙ c.in-Ok.ensures.whole t ht) ∙ text_of-take c.args.units 19 t in
-    rw (c.in-Some.is, c.in-Typewriter.is, c.of_file-in-Typewriter.ensures.answer) (subst (λ r. GivesUnits r c.with_typewriter.result) same c.with_typewriter.ensures.units)
+pub returns-clause-units : goal.returns-clause-units
+returns-clause-units g c t ht =
+    let same = ap (text_of_unit c.args.units 19) (c.deref-in-Typewriter.ensures.value ∙ (c.in-Ok.ensures.whole t ht).0) ∙ text_of-take c.args.units 19 t in
+    rw (c.if-not-given.false, c.in-Typewriter.is) (subst (λ r. GivesUnits r c.with_typewriter.result) same c.with_typewriter.ensures.units)

@@ -16,7 +16,7 @@ legs-preserved c =
     record {
       program = c.in_ok-made.ensures.program ∙ c.legs.invariant.program;
       first = c.in_ok-made.ensures.first ∙ c.legs.invariant.first;
-      passed = leg_more c.args.way (first_leg c.args.points.now c.args.session.now.timeline) leg c.in_ok-made.made c.in_ok-made.end c.run_leg.new.points
+      passed = leg_more c.args.way (first_leg c.args.way c.args.points.now c.args.session.now.timeline) leg c.in_ok-made.made c.in_ok-made.end c.run_leg.new.points
           c.run_leg.new.session.timeline c.saturating_sub-left.result _ _ c.passes_by.result c.legs.invariant.passed c.in_ok-made.ensures.done.1
           c.in_ok-made.ensures.done.0 c.in_ok-made.ensures.done.2 c.awaited_by.ensures c.world.ensures c.passes_by.ensures c.if-not-passes_by.false
           c.saturating_sub-left.ensures;

@@ -7,7 +7,7 @@ abbrev pub invariant-legs : goal.invariant-legs
 invariant-legs l = record {
   program : l.session.program ≡ l.fn.session.program;
   first : l.session.timeline.first ≡ l.fn.session.timeline.first;
-  passed : (count : ℕ) × Passes l.way count (first_leg l.fn.points l.fn.session.timeline) (record { points = l.points; timeline = l.session.timeline; left = l.left });
+  passed : (count : ℕ) × Passes l.way count (first_leg l.way l.fn.points l.fn.session.timeline) (record { points = l.points; timeline = l.session.timeline; left = l.left });
 }
 
 abbrev pub decreases-legs : goal.decreases-legs

@@ -22,7 +22,7 @@ go_to-requires-clause-loc c =
     let is : said a (units ++ c.args.header ∷ []) ≡ said b units ++ jump_said n a = ap (λ h. said a (units ++ h ∷ [])) c.requires.kind ∙ jump-says n a test units in
     let fit = header-fits _ (said b units) (jump_said n a) c.args.most c.args.self.now is (omega (arith, more)) c.requires.within c.requires.fits in
     let put = three-put c.args.self.now (old.Reg reg.J (short_word (wide_bits 4096 (n / 8192)))) b.loc b.clock fit in
-    rw c.before_jump.ensures put.two.loc
+    rw c.before_jump-to.ensures put.two.loc
 
 pub go_to-requires-clause-clock : goal.go_to-requires-clause-clock
 go_to-requires-clause-clock c =
@@ -35,7 +35,7 @@ go_to-requires-clause-clock c =
     let is : said a (units ++ c.args.header ∷ []) ≡ said b units ++ jump_said n a = ap (λ h. said a (units ++ h ∷ [])) c.requires.kind ∙ jump-says n a test units in
     let fit = header-fits _ (said b units) (jump_said n a) c.args.most c.args.self.now is (omega (arith, more)) c.requires.within c.requires.fits in
     let put = three-put c.args.self.now (old.Reg reg.J (short_word (wide_bits 4096 (n / 8192)))) b.loc b.clock fit in
-    rw c.before_jump.ensures put.two.clock
+    rw c.before_jump-to.ensures put.two.clock
 
 pub set_value-requires : goal.set_value-requires
 set_value-requires c =
@@ -63,6 +63,6 @@ returns-clause-restored c =
     let put = three-put c.args.self.now (old.Reg reg.J (short_word (wide_bits 4096 (n / 8192)))) b.loc b.clock fit in
     let held = c.short.ensures ∙ ap short_word c.wide_bits.ensures.is in
     let there = set_value (set_value c.args.self.now (old.Clock b.clock)) (old.Loc b.loc) in
-    let state = c.set_value.ensures ∙ ap (λ (s : WorldState). set_value s (old.Reg reg.J c.short.result)) (rw c.before_jump.ensures at c.go_to.ensures)
+    let state = c.set_value.ensures ∙ ap (λ (s : WorldState). set_value s (old.Reg reg.J c.short.result)) (rw c.before_jump-to.ensures at c.go_to.ensures)
     ∙ ap (λ (v : WordValue). set_value there (old.Reg reg.J v)) held in
-    rw c.before_jump.ensures (header-restored _ (said b units) (jump_said n a) 3 c.args.self.now _ is refl (omega arith) (at-most 3) (put.done ∙ ap Some (sym state)))
+    rw (c.set.ensures, c.before_jump-to.ensures) (header-restored _ (said b units) (jump_said n a) 3 c.args.self.now _ is refl (omega arith) (at-most 3) (put.done ∙ ap Some (sym state)))

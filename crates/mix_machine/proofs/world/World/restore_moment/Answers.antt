@@ -15,7 +15,7 @@ go_to-requires-clause-loc c =
     let units = c.args.units.now.items in
     let is : said a (units ++ c.args.header ∷ []) ≡ said b units ++ moment_said n a = ap (λ h. said a (units ++ h ∷ [])) c.requires.kind ∙ moment-says n a units in
     let fit = header-fits _ (said b units) (moment_said n a) c.args.most c.args.self.now is (omega (arith, c.if-most-lt2.false)) c.requires.within c.requires.fits in
-    rw c.before_moment.ensures (two-put c.args.self.now b.loc b.clock fit).loc
+    rw c.before_moment-to.ensures (two-put c.args.self.now b.loc b.clock fit).loc
 
 pub go_to-requires-clause-clock : goal.go_to-requires-clause-clock
 go_to-requires-clause-clock c =
@@ -25,7 +25,7 @@ go_to-requires-clause-clock c =
     let units = c.args.units.now.items in
     let is : said a (units ++ c.args.header ∷ []) ≡ said b units ++ moment_said n a = ap (λ h. said a (units ++ h ∷ [])) c.requires.kind ∙ moment-says n a units in
     let fit = header-fits _ (said b units) (moment_said n a) c.args.most c.args.self.now is (omega (arith, c.if-most-lt2.false)) c.requires.within c.requires.fits in
-    rw c.before_moment.ensures (two-put c.args.self.now b.loc b.clock fit).clock
+    rw c.before_moment-to.ensures (two-put c.args.self.now b.loc b.clock fit).clock
 
 pub returns-clause-restored : goal.returns-clause-restored
 returns-clause-restored c =
@@ -36,5 +36,5 @@ returns-clause-restored c =
     let is : said a (units ++ c.args.header ∷ []) ≡ said b units ++ moment_said n a = ap (λ h. said a (units ++ h ∷ [])) c.requires.kind ∙ moment-says n a units in
     let fit = header-fits _ (said b units) (moment_said n a) c.args.most c.args.self.now is (omega (arith, c.if-most-lt2.false)) c.requires.within c.requires.fits in
     let put = two-put c.args.self.now b.loc b.clock fit in
-    rw c.before_moment.ensures
-    (header-restored _ (said b units) (moment_said n a) 2 c.args.self.now _ is refl (omega arith) (at-most 2) (put.done ∙ ap Some (sym (rw c.before_moment.ensures at c.go_to.ensures))))
+    rw (c.set.ensures, c.before_moment-to.ensures)
+    (header-restored _ (said b units) (moment_said n a) 2 c.args.self.now _ is refl (omega arith) (at-most 2) (put.done ∙ ap Some (sym (rw c.before_moment-to.ensures at c.go_to.ensures))))

@@ -21,7 +21,7 @@ go_to-requires-clause-loc c =
     let is : said a (units ++ c.args.header ∷ []) ≡ said b units ++ short_said c.short_register-reg.result n a = ap (λ h. said a (units ++ h ∷ [])) c.requires.kind ∙ short-says n c.short_register-reg.result a test c.short_register-reg.ensures units in
     let fit = header-fits _ (said b units) (short_said c.short_register-reg.result n a) c.args.most c.args.self.now is (omega (arith, more)) c.requires.within c.requires.fits in
     let put = three-put c.args.self.now (old.Reg c.short_register-reg.result (short_word (wide_bits (2 ^ 22) (n / 32)))) b.loc b.clock fit in
-    rw c.before_short.ensures put.two.loc
+    rw c.before_short-to.ensures put.two.loc
 
 pub go_to-requires-clause-clock : goal.go_to-requires-clause-clock
 go_to-requires-clause-clock c =
@@ -34,7 +34,7 @@ go_to-requires-clause-clock c =
     let is : said a (units ++ c.args.header ∷ []) ≡ said b units ++ short_said c.short_register-reg.result n a = ap (λ h. said a (units ++ h ∷ [])) c.requires.kind ∙ short-says n c.short_register-reg.result a test c.short_register-reg.ensures units in
     let fit = header-fits _ (said b units) (short_said c.short_register-reg.result n a) c.args.most c.args.self.now is (omega (arith, more)) c.requires.within c.requires.fits in
     let put = three-put c.args.self.now (old.Reg c.short_register-reg.result (short_word (wide_bits (2 ^ 22) (n / 32)))) b.loc b.clock fit in
-    rw c.before_short.ensures put.two.clock
+    rw c.before_short-to.ensures put.two.clock
 
 pub set_value-requires : goal.set_value-requires
 set_value-requires c =
@@ -62,6 +62,6 @@ returns-clause-restored c =
     let put = three-put c.args.self.now (old.Reg c.short_register-reg.result (short_word (wide_bits (2 ^ 22) (n / 32)))) b.loc b.clock fit in
     let held = c.short-word.ensures ∙ ap short_word c.wide_bits.ensures.is in
     let there = set_value (set_value c.args.self.now (old.Clock b.clock)) (old.Loc b.loc) in
-    let state = c.set_value.ensures ∙ ap (λ (s : WorldState). set_value s (old.Reg c.short_register-reg.result c.short-word.result)) (rw c.before_short.ensures at c.go_to.ensures)
+    let state = c.set_value.ensures ∙ ap (λ (s : WorldState). set_value s (old.Reg c.short_register-reg.result c.short-word.result)) (rw c.before_short-to.ensures at c.go_to.ensures)
     ∙ ap (λ (v : WordValue). set_value there (old.Reg c.short_register-reg.result v)) held in
-    rw c.before_short.ensures (header-restored _ (said b units) (short_said c.short_register-reg.result n a) 3 c.args.self.now _ is refl (omega arith) (at-most 3) (put.done ∙ ap Some (sym state)))
+    rw (c.set.ensures, c.before_short-to.ensures) (header-restored _ (said b units) (short_said c.short_register-reg.result n a) 3 c.args.self.now _ is refl (omega arith) (at-most 3) (put.done ∙ ap Some (sym state)))

@@ -15,14 +15,14 @@ go_to-requires-clause-loc c =
     let said_is = c.in-Some.ensures.store in
     let back = store-back _ c.in-Some.place c.in-Some-pop.bits c.args.most c.args.anchor.now _ c.pop.new.self.items c.args.self.now c.requires.kind
     said_is.0 said_is.1 said_is.2 c.in-Some-pop.ensures.items c.in-Some.ensures.within.1 c.requires.within c.requires.fits in
-    rw c.before_store.ensures back.1.two.loc
+    rw c.before_store-to.ensures back.1.two.loc
 
 pub go_to-requires-clause-clock : goal.go_to-requires-clause-clock
 go_to-requires-clause-clock c =
     let said_is = c.in-Some.ensures.store in
     let back = store-back _ c.in-Some.place c.in-Some-pop.bits c.args.most c.args.anchor.now _ c.pop.new.self.items c.args.self.now c.requires.kind
     said_is.0 said_is.1 said_is.2 c.in-Some-pop.ensures.items c.in-Some.ensures.within.1 c.requires.within c.requires.fits in
-    rw c.before_store.ensures back.1.two.clock
+    rw c.before_store-to.ensures back.1.two.clock
 
 pub returns-in-Some-pop-clause-restored : goal.returns-in-Some-pop-clause-restored
 returns-in-Some-pop-clause-restored c =
@@ -32,7 +32,7 @@ returns-in-Some-pop-clause-restored c =
     let said_is = c.in-Some.ensures.store in
     let back = store-back _ place c.in-Some-pop.bits c.args.most a _ c.pop.new.self.items c.args.self.now c.requires.kind
     said_is.0 said_is.1 said_is.2 c.in-Some-pop.ensures.items c.in-Some.ensures.within.1 c.requires.within c.requires.fits in
-    let state = c.set_value.ensures ∙ ap (λ (s : WorldState). set_value s (old.Cell place c.long.result)) (rw c.before_store.ensures at c.go_to.ensures)
+    let state = c.set_value.ensures ∙ ap (λ (s : WorldState). set_value s (old.Cell place c.long.result)) (rw c.before_store-to.ensures at c.go_to.ensures)
     ∙ ap (λ (v : WordValue). set_value (after_two c.args.self.now b.loc b.clock) (old.Cell place v)) c.long.ensures in
-    rw c.before_store.ensures
+    rw (c.set.ensures, c.before_store-to.ensures)
     (header-restored _ (said b c.pop.new.self.items) (store_said place c.in-Some-pop.bits a) 3 c.args.self.now _ back.0 refl (omega arith) (at-most 3) (back.1.done ∙ ap Some (sym state)))

@@ -1,63 +1,48 @@
--- One line more: what has been written and what is left to write are the replies to all.
-use Rattle.std.proofs.Common.{sym, ◌∙◌}
+-- One line more: what was answered before and what is answered now is the answer to all.
+use Rattle.std.proofs.Common.{◌∙◌, ◌++◌, [], None, ap, append_assoc, refl, sym}
+use Rattle.mix_lines.specs.Lines.{lines}
+use Rattle.mix_run.specs.Stretch.{answer_of}
 use Rattle.mix_run.proofs.RunLemmas.{nil-from_length}
-use Rattle.mix_run.proofs.TalkLemmas.{after-one, all-answered, all-done, all-recalled, all-reported, begun-one, never-over, over-one, recall-one, told-one, written-one}
+use Rattle.mix_run.proofs.StretchLemmas.{Answered-nothing, line-begun, line-over, line-then, lines-done}
 use Rattle.mix_run.proofs.Written.{AppendsFront-all}
 use Rattle.mix_run.proofs.talk.heard.answer_lines.Goals as goal
 
-pub returns-in_err-now-clause-begun : goal.returns-in_err-now-clause-begun
-returns-in_err-now-clause-begun g c =
-    begun-one c.loop-rest.moment.session c.args.talker c.loop-rest.moment.recall _ _ _ c.split_line.ensures.lines _ _ _ _ c.loop-rest.invariant.written
-    c.answer_line.ensures.begun
-
-pub returns-then-now-clause-begun : goal.returns-then-now-clause-begun
-returns-then-now-clause-begun g c =
-    begun-one c.loop-rest.moment.session c.args.talker c.loop-rest.moment.recall _ _ _ c.split_line.ensures.lines _ _ _ _ c.loop-rest.invariant.written
-    c.answer_line.ensures.begun
+pub loop-rest-init : goal.loop-rest-init
+loop-rest-init g c = record { answered = ([], refl, λ d. Answered-nothing _ _ _ _ refl refl); failed = refl }
 
 pub loop-rest-preserved : goal.loop-rest-preserved
 loop-rest-preserved g c =
-    let split = c.split_line.ensures.lines in
-    let answer = c.in_ok-now.ensures in
-    let goes_on = sym answer.over ∙ c.if-now.false in
-    let talker = c.args.talker in
-    let s = c.loop-rest.moment.session in
-    let r = c.loop-rest.moment.recall in
+    let so_far = c.loop-rest.invariant.answered in
+    let now = c.in_ok-now.ensures in
     record {
-      written = written-one s talker r _ _ _ split _ _ goes_on answer.session answer.recall _ _ _ _ c.loop-rest.invariant.written answer.written;
-      told = rw c.and-told.ensures
-          (told-one s talker r _ _ _ split _ _ goes_on answer.session answer.recall _ _ _ c.loop-rest.invariant.told answer.told);
-      over = c.loop-rest.invariant.over ∙ over-one s talker r _ _ _ split goes_on;
-      session = c.loop-rest.invariant.session ∙ after-one s talker r _ _ _ split _ _ goes_on answer.session answer.recall;
-      recall = c.loop-rest.invariant.recall ∙ recall-one s talker r _ _ _ split _ _ goes_on answer.session answer.recall;
-      origin = answer.origin ∙ c.loop-rest.invariant.origin;
-      failed = answer.write.1 (λ e. cc) ∙ c.loop-rest.invariant.failed;
-      quiet = λ e. answer.quiet e ∙ c.loop-rest.invariant.quiet e;
+      answered = (
+        _,
+        so_far.1 ∙ ap (λ l. so_far.0 ++ l) c.split_line.ensures.lines ∙ sym (append_assoc so_far.0 _ (lines c.split_line.result.1.now)),
+        λ d. line-then (answer_of c.args.talker) _ _ so_far.0 _ _ _ (so_far.2 d) _ _ _ _ _ _ _ c.and-told.ensures c.if-now.false (now.answered d),
+      );
+      failed = now.write.1 (λ e. cc) ∙ c.loop-rest.invariant.failed;
     }
 
-pub returns-clause-replies : goal.returns-clause-replies
-returns-clause-replies g c =
-    let none = nil-from_length _ (sym c.loop-rest-test.false ∙ c.is_empty.ensures) in (
-      all-reported c.loop-rest.moment.session c.args.talker c.loop-rest.moment.recall _ none _ _ c.loop-rest.invariant.told,
-      all-answered c.loop-rest.moment.session c.args.talker c.loop-rest.moment.recall _ none _ _ _ c.loop-rest.invariant.written,
-    )
+pub returns-in_err-now-clause-begun : goal.returns-in_err-now-clause-begun
+returns-in_err-now-clause-begun g c =
+    let so_far = c.loop-rest.invariant.answered in
+    line-begun (answer_of c.args.talker) _ _ so_far.0 _ _ _ (so_far.2 None) _ _ _
+    (so_far.1 ∙ ap (λ l. so_far.0 ++ l) c.split_line.ensures.lines) _ c.answer_line.ensures.begun
 
-pub returns-clause-over : goal.returns-clause-over
-returns-clause-over g c =
-    let none = nil-from_length _ (sym c.loop-rest-test.false ∙ c.is_empty.ensures) in
-    sym (c.loop-rest.invariant.over ∙ never-over c.loop-rest.moment.session c.args.talker c.loop-rest.moment.recall _ none)
+pub returns-then-now-clause-answered : goal.returns-then-now-clause-answered
+returns-then-now-clause-answered g c d =
+    let so_far = c.loop-rest.invariant.answered in
+    line-over (answer_of c.args.talker) _ _ so_far.0 _ _ _ (so_far.2 d) _ _ _
+    (so_far.1 ∙ ap (λ l. so_far.0 ++ l) c.split_line.ensures.lines) _ _ _ _ _ c.and-told.ensures c.if-now.true (c.in_ok-now.ensures.answered d)
 
-pub returns-clause-session : goal.returns-clause-session
-returns-clause-session g c =
-    let none = nil-from_length _ (sym c.loop-rest-test.false ∙ c.is_empty.ensures) in
-    sym (c.loop-rest.invariant.session ∙ all-done c.loop-rest.moment.session c.args.talker c.loop-rest.moment.recall _ none)
+pub returns-then-now-clause-begun : goal.returns-then-now-clause-begun
+returns-then-now-clause-begun g c = AppendsFront-all _ _ _ (returns-then-now-clause-answered g c None).written
 
-pub returns-clause-recall : goal.returns-clause-recall
-returns-clause-recall g c =
+pub returns-clause-answered : goal.returns-clause-answered
+returns-clause-answered g c d =
+    let so_far = c.loop-rest.invariant.answered in
     let none = nil-from_length _ (sym c.loop-rest-test.false ∙ c.is_empty.ensures) in
-    sym (c.loop-rest.invariant.recall ∙ all-recalled c.loop-rest.moment.session c.args.talker c.loop-rest.moment.recall _ none)
+    lines-done (answer_of c.args.talker) _ _ so_far.0 _ _ _ _ _ so_far.1 none (so_far.2 d)
 
 pub returns-clause-begun : goal.returns-clause-begun
-returns-clause-begun g c =
-    let none = nil-from_length _ (sym c.loop-rest-test.false ∙ c.is_empty.ensures) in
-    AppendsFront-all _ _ _ (all-answered c.loop-rest.moment.session c.args.talker c.loop-rest.moment.recall _ none _ _ _ c.loop-rest.invariant.written)
+returns-clause-begun g c = AppendsFront-all _ _ _ (returns-clause-answered g c None).written

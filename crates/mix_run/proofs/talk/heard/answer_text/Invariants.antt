@@ -7,11 +7,10 @@ use Rattle.mix_run.proofs.talk.heard.answer_text.Given as goal
 abbrev pub invariant-loop-rest : goal.invariant-loop-rest
 invariant-loop-rest g l = record {
   answered : (front : List (List ℕ)) × (lines l.text ≡ front ++ lines l.rest)
-      × ((all : Files) → Knows (g.O.Opener.holds l.fn.files) all l.talker front
+      × ((all : Files) → Knows (g.O.Opener.holds l.fn.files) all l.talker (lines l.text)
       → Answered (talk_of all l.fn.moment l.talker front) l.moment l.told false
       (g.O.Opener.saved l.fn.files) (g.O.Opener.saved l.files) (g.W.Out.told l.fn.out) (g.W.Out.told l.out));
   failed : g.W.Out.failed l.out ≡ g.W.Out.failed l.fn.out;
-  quiet : l.talker ≡ Program → l.errors ≡ l.fn.errors;
   unasked : g.O.Opener.asked l.files ≡ g.O.Opener.asked l.fn.files;
   held : g.O.Opener.holds l.files ≡ g.O.Opener.holds l.fn.files;
   untouched : l.talker ≡ Program → l.files ≡ l.fn.files;

@@ -14,7 +14,6 @@ loop-reads-init g c = record {
   heard = ([], Consumes-nil _, omega arith, Hears-nothing _ _ c.args.streams.now.talker _ _ _ refl c.new-pending.ensures.items refl);
   read = refl;
   written = refl;
-  quiet = λ e. c.prompt.ensures e ∙ c.greet.ensures e;
   unasked = refl;
   held = refl;
   untouched = λ e. refl;
@@ -133,7 +132,6 @@ loop-reads-preserved g c =
       );
       read = c.in-Ok.ensures.ok ∙ c.loop-reads.invariant.read;
       written = c.in-Ok-answer_text-2.ensures.write.1 (λ e. cc) ∙ c.loop-reads.invariant.written;
-      quiet = λ e. c.in-Ok-answer_text-2.ensures.quiet e ∙ c.loop-reads.invariant.quiet e;
       unasked = c.in-Ok-answer_text-2.ensures.unasked ∙ c.loop-reads.invariant.unasked;
       held = c.in-Ok-answer_text-2.ensures.held ∙ c.loop-reads.invariant.held;
       untouched = λ e. c.in-Ok-answer_text-2.ensures.untouched e ∙ c.loop-reads.invariant.untouched e;

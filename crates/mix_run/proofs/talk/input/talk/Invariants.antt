@@ -12,7 +12,6 @@ invariant-loop-reads g l = record {
       (g.O.Opener.saved l.fn.files) (g.O.Opener.saved l.files) (g.W.Out.told l.fn.streams.out) (g.W.Out.told l.streams.out);
   read : g.R.In.failed l.streams.input ≡ g.R.In.failed l.fn.streams.input;
   written : g.W.Out.failed l.streams.out ≡ g.W.Out.failed l.fn.streams.out;
-  quiet : l.fn.streams.talker ≡ Program → l.streams.errors ≡ l.fn.streams.errors;
   unasked : g.O.Opener.asked l.files ≡ g.O.Opener.asked l.fn.files;
   held : g.O.Opener.holds l.files ≡ g.O.Opener.holds l.fn.files;
   untouched : l.fn.streams.talker ≡ Program → l.files ≡ l.fn.files;

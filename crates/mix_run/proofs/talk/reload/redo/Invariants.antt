@@ -5,7 +5,7 @@ use Rattle.mix_run.proofs.talk.reload.redo.Given as goal
 
 -- the lines that are left lead where all lead
 abbrev pub invariant-loop-rest : goal.invariant-loop-rest
-invariant-loop-rest g l = after_lines l.session (lines l.rest) ≡ after_lines l.fn.session (lines l.script)
+invariant-loop-rest l = after_lines l.session (lines l.rest) ≡ after_lines l.fn.session (lines l.script)
 
 abbrev pub decreases-loop-rest : goal.decreases-loop-rest
-decreases-loop-rest g l = length l.rest
+decreases-loop-rest l = length l.rest

@@ -2,7 +2,7 @@
 use Rattle.std.proofs.Common.{◌≡◌, ◌∙◌, Err, ap, refl, rules}
 use Rattle.mix_refused.specs.declared.refused.Refused.TheVariants as refused
 use Rattle.mix_run.specs.PrintOutput.{parts_of}
-use Rattle.mix_run.proofs.ReloadLemmas.{reloaded-read, reloaded-unread}
+use Rattle.mix_run.proofs.ReloadLemmas.{on-ok, reloaded-read, reloaded-unread}
 use Rattle.mix_run.proofs.talk.reload.reload.Goals as goal
 
 pub returns-in-Ok-clause-reloaded : goal.returns-in-Ok-clause-reloaded
@@ -18,5 +18,5 @@ returns-in-Err-Fault-clause-reloaded g c all held =
     let read = c.in-Err-Fault.is in
     let why = c.in-Err-Fault.field-0-is in
     let same : c.read.result ≡ Err (refused.Fault c.in-Err-Fault.unread) = cc in
-    reloaded-unread (λ text. text.items) 41943041 (all c.args.moment.now.origin.name) c.read.result c.in-Err-Fault.unread
-    c.args.moment.now same (rw named at (c.read.ensures.given all held))
+    on-ok c.tell_unread.result (reloaded-unread (λ text. text.items) 41943041 (all c.args.moment.now.origin.name) c.read.result c.in-Err-Fault.unread
+    c.args.moment.now same (rw named at (c.read.ensures.given all held)))

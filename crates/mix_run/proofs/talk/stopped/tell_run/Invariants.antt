@@ -3,7 +3,7 @@ use Rattle.std.specs.Prelude.{⊤}
 use Rattle.mix_run.proofs.talk.stopped.tell_run.Given as goal
 
 abbrev pub invariant-loop-word : goal.invariant-loop-word
-invariant-loop-word g l = ⊤
+invariant-loop-word l = ⊤
 
 abbrev pub decreases-loop-word : goal.decreases-loop-word
-decreases-loop-word g l = length l.words
+decreases-loop-word l = length l.words
