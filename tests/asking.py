@@ -1,8 +1,7 @@
-"""Asks the debug adapter about the run of a program, reads symbols and expressions as the model does, and writes words, registers, rows and changes as the
-program does, for tests alone."""
+"""Asks the debug adapter about the run of a program, reads symbols and expressions as the model
+does, and writes words, rows and changes as the program does, for tests alone."""
 
-from tests import REGISTERS
-from tests.adapter.frames import DONE, framed, launch, messages, sent
+from running import asked
 from tests.model import words
 from tests.model.assembler import assemble
 from tests.model.expressions import expression
@@ -15,27 +14,15 @@ def line(text):
     return "evaluate", {"expression": text, "context": "repl"}
 
 
-def asked(program, bundle, requests):
-    """The responses to requests about the program of a bundle, which waits before its first step."""
-    source, deck = ("".join(f"{each}\n" for each in part) for part in (bundle.source, bundle.deck))
-    requests = list(requests)
-    opening = [("initialize", {"adapterID": "mixrev"}), launch(source, devicesText=deck), DONE]
-    output, errors, status = sent([program, "dap"], framed(*opening, *requests))
-    found = [message for message in messages(output) if message["type"] == "response"]
-    if status or errors or len(found) != len(opening) + len(requests) or not found[1]["success"]:
-        raise ValueError(f"status {status}, {errors[-200:]}, {len(found)} responses, the launch {found[1:2]}")
-    return found[len(opening):]
-
-
 def total_of(program, bundle):
     """How many changes a run to the halt makes."""
     ran, state = asked(program, bundle, [line("run 1000000"), STATE])
-    if not told(ran).endswith(": halt\n"):
-        raise ValueError(f"no halt: {told(ran)}")
+    if not reply_of(ran).endswith(": halt\n"):
+        raise ValueError(f"no halt: {reply_of(ran)}")
     return Machine(state).done
 
 
-def told(response):
+def reply_of(response):
     """What a line of the console says, or how it is refused."""
     return response["body"]["result"] if response["success"] else f"? {response['message']}"
 
@@ -61,12 +48,6 @@ def word_of(text):
 def written(n, size=5):
     """A number from 0 on as a word is written, or as a register of fewer bytes."""
     return words.written(("+", n), 6 - size)
-
-
-def registers(location, clock, comparison, **held):
-    """The lines of `show regs` where overflow is off; a register that is not named holds zero."""
-    return [f"{name:2} {written(held.get(name, 0), 5 if name in 'AX' else 2)}" for name in REGISTERS] + \
-        ["over off cmp %s loc %04d clock %d" % (comparison, location, clock)]
 
 
 def row(text, width=120):

@@ -10,9 +10,11 @@ from tests.model.program import Runner
 def pytest_addoption(parser):
     parser.addoption("--program", required=True, help="the built program")
     parser.addoption("--examples", type=int, help="how many inputs each random test draws")
+    parser.addoption("--write", action="store_true", help="make again what test_tables compares")
     parser.addoption("--full", action="store_true", help="what takes long, too")
     parser.addoption("--again", metavar="FILE", help="the program of tests/hostile/again")
     parser.addoption("--page", metavar="FILE", help="the page, or docs/mixrev.html")
+    parser.addoption("--engine", metavar="FILE", help="the engine of the page, packed or not")
     parser.addoption("--firefox", action="store_true", help="test the page in Firefox")
     parser.addoption("--webkit", action="store_true", help="test the page in WebKit")
 
@@ -41,12 +43,12 @@ def command(program):
 
 @pytest.fixture
 def talk(command, request):
-    """A talk through debugpy's channel, after `initialize`, with the arguments of the test's mark where it has one."""
+    """A talk through debugpy's channel, after `initialize`, of a client that may count from 0."""
     from tests.adapter.client import Client  # without python3-debugpy only these tests are left out
 
     client = Client(command)
-    mark = request.node.get_closest_marker("initialize")
-    client.begin(**(mark.kwargs if mark else {}))
+    counted = {name: False for name in ("linesStartAt1", "columnsStartAt1")}
+    client.begin(**(counted if request.node.get_closest_marker("from_zero") else {}))
     yield client
     client.kill()
 

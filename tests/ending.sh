@@ -1,6 +1,6 @@
 # shellcheck shell=bash
 # For a script that sources this: $here is a folder that goes away at its end, and with it all that
-# the script has begun and that still runs. Its rows are counted; tally.py counts them in Python.
+# the script has begun and that still runs. Its rows are counted.
 here=$(mktemp -d)
 trap 'for child in $(jobs -pr); do end "$child"; done; rm -rf "$here"' EXIT
 trap 'exit 143' HUP INT TERM

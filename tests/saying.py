@@ -1,6 +1,6 @@
-"""What the program, the documents and the manual page say of the words of the program."""
+"""What the program and the documents say of the words of the program."""
+
 import re
-import shlex
 import subprocess
 
 from running import at_a_terminal
@@ -10,7 +10,6 @@ PAGE = TOP / "package" / "mixrev.1"
 SOURCE = " ENTA 5\n INCA 7\n STA 100\n HLT\n END 0\n"
 # What may stand for an argument in a line of a script, and one that does.
 ARGUMENTS = {"N": (r"\d+", "1"), "E": (r"\S+", "0"), "W": (r"\S+", "0"), "REG": ("(A|X|I[1-6]|J)", "A"), "COND": (r"\S+( \S+)?", "A")}
-FONTS = {".B": " ", ".I": " ", ".BI": "", ".BR": "", ".IR": "", ".RB": "", ".RI": "", ".IB": ""}
 
 
 def read(name):
@@ -36,10 +35,7 @@ def normal(sentence):
     return sentence[:1].lower() + sentence[1:]
 
 
-# What the program says
-
-
-def told(program, *words):
+def help_of(program, *words):
     """What --help says."""
     return subprocess.run([program, *words, "--help"], stdin=subprocess.DEVNULL, capture_output=True, text=True, timeout=60).stdout
 
@@ -47,7 +43,7 @@ def told(program, *words):
 def helped(program, words):
     """What `help` says at a terminal of each word; what it says alone is that of ""."""
     lines = [*(f"help {word}" for word in words), "help"]
-    _, *replies = at_a_terminal(program, [SOURCE.splitlines()], lines, "(mixrev) ")
+    _, *replies = at_a_terminal(program, [SOURCE.splitlines()], lines)
     return dict(zip([*words, ""], map("\n".join, replies)))
 
 
@@ -78,9 +74,6 @@ def is_among(form, lines):
     return any(pattern.fullmatch(line.strip()) for line in lines)
 
 
-# What the documents say
-
-
 def tables(head, text):
     """The cells of each row of the tables of a text whose first column has this head."""
     inside = False
@@ -91,35 +84,13 @@ def tables(head, text):
             yield cells
 
 
-def items(part):
-    """The items of a part of the formats that begin with code: the codes, and what is said of them."""
-    text = between(formats(), f"\n## {part}\n", "\n## ")
-    return [(codes(head), normal(says)) for head, says in re.findall(r"^- (`[^`]+`(?:, `[^`]+`)*): (.*(?:\n  .*)*)", text, re.M)]
-
-
-def plain(line):
-    """A line of the manual page as it is read."""
-    line = re.sub(r"\\f.", "", line).replace("\\-", "-").replace("\\(aq", "'").replace("\\e", "\\")
-    macro, _, words = line.partition(" ")
-    return FONTS[macro].join(shlex.split(words, posix=True) if "'" not in words else [words]) if macro in FONTS else line
-
-
-def manual():
-    """The items of the manual page by section and subsection, each its tags and its text. A section without a subsection has the name ""."""
-    items, here, section, tagged = {}, [], "", False
-    for line in PAGE.read_text().splitlines():
-        macro, _, name = line.partition(" ")
-        if macro in (".SH", ".SS"):
-            section = name if macro == ".SH" else section
-            here = items.setdefault(section, {}).setdefault("" if macro == ".SH" else name, [])
-        elif macro == ".TP":
-            here.append(([], ""))
-        elif tagged:
-            here[-1][0].append(plain(line))
-        elif here and macro != ".TQ":
-            here[-1] = here[-1][0], f"{here[-1][1]} {plain(line)}".strip()
-        tagged = macro in (".TP", ".TQ")
-    return items
+def items(head, marks="##"):
+    """The items that begin with code below a heading of the formats: the codes, and what is said of
+    them."""
+    below = rf"(?ms)^{marks} {re.escape(head)}\n(.*?)(?=^#{{2,{len(marks)}}} |\Z)"
+    text = re.search(below, formats())[1]
+    found = re.findall(r"(?m)^- (`[^`]+`(?:, `[^`]+`)*): (.*(?:\n  .*)*)", text)
+    return [(codes(tags), normal(says)) for tags, says in found]
 
 
 def runs():

@@ -7,6 +7,7 @@
 What cannot be run, since its tool is not installed, is said."""
 import itertools
 import json
+import os
 import pathlib
 import re
 import shutil
@@ -117,37 +118,15 @@ def colours_of_grammar(grammar, lines):
         yield "".join(next((colour for colour, (begin, _) in COLOURS.items() for scope in reversed(stack) if scope.startswith(begin)), " ") for stack in scopes)
 
 
-VIM = r"""
-set nocompatible
-let &runtimepath = %s . ',' . &runtimepath
-filetype on
-syntax enable
-edit %s
-if &filetype !=# 'mixal' || b:current_syntax !=# 'mixal'
-  cquit
-endif
-let rows = []
-for number in range(1, line('$'))
-  let names = []
-  for column in range(1, len(getline(number)))
-    call add(names, synIDattr(synID(number, column, 1), 'name'))
-  endfor
-  call add(rows, join(names, ' ,'))
-endfor
-call writefile(rows, %s)
-qall!
-"""
-
-
 def colours_of_vim(lines):
     """The same as Vim has it, which is asked for the group of each byte."""
     with tempfile.TemporaryDirectory() as folder:
-        source, wrote, script = (pathlib.Path(folder, name) for name in ("source.mixal", "wrote", "script.vim"))
-        source.write_text("".join(f"{line}\n" for line in lines), encoding="latin-1")
-        script.write_text(VIM % (f"'{EDITORS}/vim'", source, f"'{wrote}'"))
-        subprocess.run(["vim.basic", "-u", "NONE", "-i", "NONE", "-n", "-es", "-c", "set encoding=latin1", "-S", script],
-                       stdin=subprocess.DEVNULL, stdout=subprocess.DEVNULL, timeout=300, check=True)
-        rows = wrote.read_text().split("\n")[:len(lines)]
+        text = "".join(f"{line}\n" for line in lines)
+        pathlib.Path(folder, "source.mixal").write_text(text, encoding="latin-1")
+        words = ["vim.basic", "-u", "NONE", "-i", "NONE", "-n", "-es", "-S", TOP / "tests/colours.vim"]
+        how = {"cwd": folder, "env": {**os.environ, "EDITORS": str(EDITORS)}, "timeout": 300}
+        subprocess.run(words, stdin=subprocess.DEVNULL, capture_output=True, check=True, **how)
+        rows = pathlib.Path(folder, "wrote").read_text().split("\n")[: len(lines)]
     return ["".join(OF_GROUP.get(name.strip(), " ") for name in row.split(",")) if row else "" for row in rows]
 
 

@@ -25,26 +25,6 @@ LOOP    INCA 2
 SUM     CON  0
         END  START
 """
-# The files of a case for this source, and the reason that grade/case must give, or none.
-FORMS = [
-    ({"cells": "SUM\nA\nI1\n", "wanted": "6\n0\n6\n", "limits": "clock = 22\nsteps <= 12\nLOOP >= 3\n"}, ""),
-    ({"cells": "SUM\n", "wanted": "10\n", "data": "N EQU 5\n"}, ""),
-    ({"cells": "START LOOP\n", "wanted": "786609\n524336\n"}, ""),
-    ({"cells": "SUM\n", "wanted": "7\n"}, "number 1 is not what is wanted: cell 0006 holds 6"),
-    ({"cells": "0 3999\n", "wanted": "7\n"}, "number 1 is not what is wanted: cell 0000 holds 786609"),
-    ({"cells": "SUM\n", "wanted": "6\n6\n"}, "there are fewer numbers than are wanted"),
-    ({"cells": "A\nSUM\n", "wanted": "6\n"}, "number 2 is not what is wanted: cell 0006 holds 6"),
-    ({"cells": "TOTAL\n", "wanted": "6\n"}, "the source lacks the name TOTAL"),
-    ({"cells": "SUM\n", "wanted": "6\n", "limits": "LOOP <= 2\n"}, "LOOP is 3, and not <= 2"),
-    ({"cells": "SUM\n", "wanted": "6\n", "limits": "clock <= 21\n"}, "clock is 22, and not <= 21"),
-    ({"cells": "SUM\n", "wanted": "6\n", "limits": "steps >= 13\n"}, "steps is 12, and not >= 13"),
-    ({"cells": "SUM\n", "wanted": "6\n", "limits": "BACK <= 3\n"}, "no line has the label BACK"),
-    ({"cells": "SUM\n", "wanted": "6\n", "data": "M EQU 5\n"}, "the source lacks the line M"),
-    ({"cells": "SUM\n", "wanted": "6\n", "data": "* keys\n CON 1\n* end of keys\n"}, "the source lacks the line * keys"),
-    ({"cells": "SUM\n", "wanted": "6\n", "data": "N EQU 5+\n"}, "refused with the data of the case, at line 1, column 9: A5 bad expression: a number, a symbol or * is missing"),
-    ({"cells": "SUM\n", "wanted": "6\n", "steps": "5\n"}, "no halt: limit at 0002 clock 5"),
-]
-
 STUDENT = os.environ.get("SEED", "ada")
 SLOW = ("04", "60")  # the lesson's program does the same as the exercise, and takes longer
 # What a program must get: of the cases that it fails, of its points and of all points.
@@ -63,13 +43,19 @@ def graded(program, monkeypatch):
     monkeypatch.setenv("MIXREV", program)
 
 
-@pytest.mark.parametrize("files, reason", FORMS)
-def test_form(tmp_path, files, reason):
+FORMS = [part for part in parts(TOP / "tests/exercises.txt") if part[0].startswith("form ")]
+
+
+@pytest.mark.parametrize("head, body", FORMS)
+def test_form(tmp_path, head, body):
+    """What a case can ask, and the reason that grade/case must give, or none."""
+    reason = head.removeprefix("form all:").strip()
     source, case = tmp_path / "small.mixal", tmp_path / "form"
     source.write_text(SMALL)
     case.mkdir()
-    for name, text in files.items():
-        (case / name).write_text(text)
+    for line in body.splitlines():
+        name, _, text = line.partition(": ")
+        (case / name).write_text(text.replace(" / ", "\n") + "\n")
     said = subprocess.run([TOP / "grade/case", source, case], capture_output=True, text=True)
     assert said.stdout == (f"not ok - {source} {case}: {reason}\n" if reason else f"ok - {source} {case}\n")
 

@@ -9,8 +9,9 @@ import sys
 import pytest
 
 from counting import times_of, value_of
-from running import COUNTED, Runner, all_lessons
-from tests.asking import asked, line, told
+from lessons import all_lessons
+from running import COUNTED, Runner
+from tests.asking import asked, line, reply_of
 
 # The facts of these lessons give no times.
 WITHOUT_TIMES = {"00_first_hour", "02_degrees", "03_fields", "06_loader", "16_hunt"}
@@ -113,7 +114,7 @@ def test_lesson(program, lesson):
     words = lambda given: line(" ".join(["show analysis", *(f"{name}={value}" for name, value in given.items())]))
     commands = [line(each) for each in bundle.commands() if each.split()[0] in ("set", "run")]
     constants = {one: value for one, value in quantities.items() if any(re.match(rf"{one} +EQU ", each) for each in bundle.source)}
-    *_, counts, whole, short = [told(each) for each in asked(program, bundle, [*commands, line("show counts"), words(quantities), words(constants)])]
+    *_, counts, whole, short = [reply_of(each) for each in asked(program, bundle, [*commands, line("show counts"), words(quantities), words(constants)])]
     found = [COUNTED.fullmatch(each) for each in counts.splitlines()]
     counts = {int(one[4]): (int(one[1]), int(one[2])) for one in found if one}
     rows = rows_of(bundle.source, counts)
@@ -124,7 +125,7 @@ def test_lesson(program, lesson):
     assert wrong == [], f"{name}: rows that are not ok"
     for source, number in altered(bundle.source, quantities):
         bundle.source = source
-        said = told(asked(program, bundle, [*commands, words(quantities)])[-1]).splitlines()
+        said = reply_of(asked(program, bundle, [*commands, words(quantities)])[-1]).splitlines()
         assert said == list(analysis(rows_of(source, counts), source, quantities)), f"{name}, line {number} altered"
         wrong = [int(each[28:33]) for each in said if re.match(r" *\d+  +-?\d+  no ", each)]
         assert wrong == [number], f"{name}, line {number} altered: the rows that say no"

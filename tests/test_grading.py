@@ -3,10 +3,13 @@ import csv
 import json
 import os
 import pathlib
+import re
 import shutil
 import subprocess
 
 import pytest
+
+from tests.rowfiles import parts
 
 GRADE = pathlib.Path(__file__).resolve().parent.parent / "grade"
 COURSE = GRADE.parent / "course"
@@ -15,6 +18,15 @@ OWN_DECK = " IN 100(0)\n JBUS *(0)\n LDA 100\n HLT\n END 0\n%DEVICES\n%UNIT 0\n+
 REFUSED = "\ufeffSTART FOO 1\n BAR 2\n HLT\n"
 FAULTS = ["line 1, column 1: A1 bad byte: a byte order mark: save the source without it", "line 2, column 2: A2 no such operation: BAR"]
 FOUND = "1_own: number 1 is not what is wanted: rA holds 6"
+GIVEN = {"SUM": SUM, "LOWER": SUM.lower(), "FOUND": FOUND, "DECK": OWN_DECK}
+GIVEN["JUNK"] = OWN_DECK.replace("+0", "junk")
+ROWS = dict(parts(GRADE.with_name("tests") / "grading.txt"))
+
+
+def rows(part):
+    """The rows of a part of grading.txt."""
+    text = re.sub(r"\$([A-Z]+)", lambda it: json.dumps(GIVEN[it[1]])[1:-1], ROWS[part])
+    return [*map(json.loads, text.splitlines())]
 
 
 @pytest.fixture
@@ -55,22 +67,7 @@ def case(**files):
             (folder / name).write_text(text)
 
 
-@pytest.mark.parametrize("files, old, new, reason", [
-    ({"limits": "clock <= 20\n"}, "SUM CON", "clock ENT5 0\nSUM CON", "clock is 22, and not <= 20"),
-    ({"limits": "clock <= 20\n"}, "SUM CON", "CLOCK ENT5 0\nSUM CON", "clock is 22, and not <= 20"),
-    ({"limits": "clock <= 20\n"}, "SUM CON", "STEPS ENT5 0\nSUM CON", "clock is 22, and not <= 20"),
-    ({"limits": "steps <= 9\n"}, "SUM CON", "steps ENT5 0\nSUM CON", "steps is 12, and not <= 9"),
-    ({"limits": "steps <= 9\n"}, "N EQU", "steps EQU 1\nN EQU", "steps is 12, and not <= 9"),
-    ({"limits": "loop <= 2\n"}, "SUM CON", "\tLOOP\tNOP\nSUM CON", "refused at line 8, column 2: A2 no such operation: LOOP"),
-    ({"limits": "ENT1 >= 1\n"}, "START ENT1", "START NOP\n\tENT1", "no line has the label ENT1"),
-    ({"limits": "LOOP = 3\nclock = 22\n"}, SUM, SUM.lower(), ""),
-    ({"limits": "Loop = 3\nclock = 22\n"}, "", "", ""),
-    ({"data": "N EQU 3\n"}, SUM, SUM.lower(), ""),
-    ({"data": "n equ 5\n", "wanted": "10\n"}, "N EQU", "N\tequ", ""),
-    ({"cells": "A\n", "wanted": "7\n"}, SUM, OWN_DECK, "no halt: fault M11 no block at 0000 clock 0"),
-    ({"cells": "A\n", "wanted": "7\n"}, SUM, OWN_DECK.replace("+0", "junk"), "no halt: fault M11 no block at 0000 clock 0"),
-    ({"script": "step\n", "wanted": "ran 1 to 0001 clock 1: limit\n", "cells": None}, SUM, OWN_DECK, "line 1 is not what is wanted: ran 0 to 0000 clock 0: fault M11 no block"),
-])
+@pytest.mark.parametrize("files, old, new, reason", rows("measures"))
 def test_no_label_is_a_measure_and_no_deck_is_a_students(course, files, old, new, reason):
     case(**files)
     pathlib.Path("a.mixal").write_text(SUM.replace(old, new))

@@ -7,7 +7,7 @@ import subprocess
 import zipfile
 
 import pytest
-from tests.test_grading import FOUND, GRADE, SUM, course, rows_of, said
+from tests.test_grading import FOUND, GRADE, SUM, course, rows, rows_of, said
 
 
 def test_a_folder_of_moodle_is_unpacked_as_its_zip(course):
@@ -19,22 +19,7 @@ def test_a_folder_of_moodle_is_unpacked_as_its_zip(course):
     assert pathlib.Path("sources/7.mixal").read_text() == SUM
 
 
-ONLINE = "an online text, which is not graded"
-
-
-@pytest.mark.parametrize("name, files, row, feedback", [
-    ('=HYPERLINK("x") Evil', {"file_/=cmd.mixal": SUM}, ["""'=HYPERLINK("x") Evil""", "'=cmd.mixal", ""], FOUND),
-    ("@Cmd", {"file_/-1.png": "\0"}, ["'@Cmd", "", "'-1.png is not a text: hand in the source"], None),
-    ("+1", {"file_/\t=1.mixal": SUM}, ["'+1", "?=1.mixal", ""], FOUND),
-    ("a\u202e\x1b[2J\n=1", {"file_/\r\n.mixal": SUM}, ["a??[2J?=1", "??.mixal", ""], FOUND),
-    ("Bob", {"file_/a.mixal": SUM, "file_/b.MIXAL": SUM}, ["Bob", "", "2 files end by .mixal: hand in one"], None),
-    ("Eve", {"onlinetext_/onlinetext.html": "<p>"}, ["Eve", "", f"no file, {ONLINE}"], None),
-    ("Eve", {"onlinetext_onlinetext.html": "<p>", "file_a.mixal": SUM}, ["Eve", "a.mixal", ONLINE], f"{FOUND}; {ONLINE}"),
-    ("Pat", {"file_/ex.mixal": "%PDF-1.7 all of it in letters\n"}, ["Pat", "", "ex.mixal is not a text: hand in the source"], None),
-    ("Zip", {"file_/ex.zip": "PK\3\4\x14\0"}, ["Zip", "", "ex.zip is not a text: hand in the source"], None),
-    ("Up", {"file_/../../../up.mixal": SUM}, ["Up", "../../../up.mixal", ""], FOUND),
-    ("Old", {"file_/ex.mixal": SUM.replace("HLT", "HLT 0 \x1b\f") + "\x1a"}, ["Old", "ex.mixal", ""], FOUND),
-])
+@pytest.mark.parametrize("name, files, row, feedback", rows("handed in"))
 def test_what_was_handed_in_is_named_to_teacher_and_student(course, name, files, row, feedback):
     with zipfile.ZipFile("download.zip", "w") as packed:
         for file, text in files.items():
@@ -74,12 +59,7 @@ def test_gradescope_gets_the_cases_of_the_student(course):
     assert json.loads(result.read_text()) == {"score": 0, "output": "ex.txt is not a text: hand in the source"}
 
 
-@pytest.mark.parametrize("named, cases, why", [
-    ("script", "cases", "{named} is not a program of Linux: MIXREV names the program itself, not what starts it"),
-    ("/bin/true", "cases", "/bin/true does not run a program of MIX"),
-    ("nowhere/mixrev", "cases", "nowhere/mixrev is not there: MIXREV names the program"),
-    (None, "empty", "empty has no case: a case is a folder with a file wanted"),
-])
+@pytest.mark.parametrize("named, cases, why", rows("packed"))
 def test_what_can_reach_no_verdict_is_not_packed(course, monkeypatch, named, cases, why):
     (course / "script").write_text('#!/bin/sh\nexec "$MIXREV" "$@"\n')
     (course / "script").chmod(0o755)

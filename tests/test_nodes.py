@@ -9,7 +9,7 @@ import pytest
 
 from running import Bundle, at_a_terminal, replies_of
 from tests import TOP
-from tests.asking import STATE, Machine, asked, line, symbols_of, told, total_of, value_of
+from tests.asking import STATE, Machine, asked, line, symbols_of, reply_of, total_of, value_of
 from tests.model import words
 
 REMARK = "* nodes: "
@@ -90,7 +90,7 @@ def test_lesson(program, path):
     for moment, _, said, state in zip(moments, responses[::3], responses[1::3], responses[2::3]):
         machine = Machine(state)
         wanted = "".join(f"{each}\n" for each in read(shape, machine))
-        assert (machine.done, told(said)) == (moment, wanted), f"{path.parent.name}, after {moment} changes"
+        assert (machine.done, reply_of(said)) == (moment, wanted), f"{path.parent.name}, after {moment} changes"
 
 
 def test_faces(program):
@@ -101,8 +101,8 @@ def test_faces(program):
         "SHOW Passages 0 of 100 assert 100+0 > 100": ["  state          100  100+0 > 100", "      0          101  true"],
         "show analysis": ["names", "time 0 = 0 = 0", "lines 0 ok, 0 no, 0 ?"],
     }
-    terminal = at_a_terminal(program, [bundle.source], answers, "(mixrev) ")[1:]
-    adapter = [told(each).splitlines() for each in asked(program, bundle, map(line, answers))]
+    terminal = at_a_terminal(program, [bundle.source], answers)[1:]
+    adapter = [reply_of(each).splitlines() for each in asked(program, bundle, [*map(line, answers)])]
     bundle.script = list(answers)
     for (text, wanted), *said in zip(answers.items(), terminal, adapter, replies_of(program, bundle)):
         assert said == [wanted, wanted, ["? C2 bad argument"]], text

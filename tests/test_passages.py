@@ -10,10 +10,10 @@ import pytest
 
 from running import Bundle
 from tests import REGISTERS, TOP
-from tests.asking import STATE, Machine, asked, line, symbols_of, told, total_of, value_of
+from tests.asking import STATE, Machine, asked, line, symbols_of, reply_of, total_of, value_of
 from tests.model.words import number_text
 
-MOST = 200  # passages that are told
+MOST = 200  # passages that are reply_of
 COMPARED = {"<": operator.lt, "<=": operator.le, "=": operator.eq, "<>": operator.ne, ">=": operator.ge, ">": operator.gt}
 LINES = [
     ("17_cycles_counted", "WALK", "rA A I2 HERE A+1..A+N", "HERE <> 4"),
@@ -71,7 +71,7 @@ def test_line(program, name, label, items, compared):
     _, by_label, by_number, writes, *states = asked(program, bundle, [line("run 1000000"), *map(line, lines), line(f"show writes loc {label}"), *moments])
     there = [machine for machine in map(Machine, states[1::2]) if machine.location == value_of(label, symbols)]
     wanted = "".join(f"{each}\n" for each in read(there, items, compared, symbols))
-    changes = [int(each[:7]) for each in told(writes).splitlines()]
+    changes = [int(each[:7]) for each in reply_of(writes).splitlines()]
     assert changes == [machine.done for machine in there if machine.done], f"{name}, {label}: the changes that lead there"
     for said, asked_for in ((by_label, lines[0]), (by_number, lines[1])):
-        assert told(said) == wanted, f"{name}: {asked_for}"
+        assert reply_of(said) == wanted, f"{name}: {asked_for}"

@@ -8,7 +8,7 @@ import re
 import pytest
 
 from running import Bundle
-from tests.asking import asked, line, told
+from tests.asking import asked, line, reply_of
 from tests.rowfiles import parts
 
 
@@ -62,10 +62,10 @@ def test_talk(program, source, replies):
     found = iter(asked(program, bundle, sum(requests, [])))
     for (text, wanted), topic in zip(replies, topics, strict=True):
         each = next(found)
-        assert wanted == "..\n" or told(each) + "\n" * (not each["success"]) == wanted, text
+        assert wanted == "..\n" or reply_of(each) + "\n" * (not each["success"]) == wanted, text
         if topic:
             # no line of a script stands for it: it only asks
             assert "line" not in each.get("body", {}), text
             values = next(found)
             written = globals()[topic[1]]
-            assert [*written(values["body"], bundle.source)] == told(each).splitlines() if each["success"] else values["message"] == each["message"], text
+            assert [*written(values["body"], bundle.source)] == reply_of(each).splitlines() if each["success"] else values["message"] == each["message"], text

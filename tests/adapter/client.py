@@ -1,6 +1,7 @@
 """A client of the adapter: debugpy's message channel over the adapter's standard streams. Each message that comes is kept and checked by the schema."""
 import json
 import os
+import pathlib
 import subprocess
 import threading
 import time
@@ -11,6 +12,12 @@ from tests.adapter import schema
 
 messaging = pytest.importorskip("debugpy.common.messaging", reason="python3-debugpy is not there")
 
+PROGRAMS = pathlib.Path(__file__).with_name("programs")
+CALLS = str(PROGRAMS / "calls.mixal")
+# Of calls.mixal the line, the location and the clock after each number of steps; see talks.walk.
+AFTER = [(3, 10, 0), (4, 11, 1), (6, 12, 2), (7, 13, 4), (8, 14, 5), (6, 12, 6), (7, 13, 8)]
+AFTER += [(8, 14, 9), (6, 12, 10), (7, 13, 12), (8, 14, 13), (9, 15, 14), (11, 17, 15)]
+AFTER += [(12, 18, 17), (13, 19, 18), (10, 16, 19), (11, 17, 29)]
 SECONDS = float(os.environ.get("WAIT", "20"))  # in which whatever is waited for has to come
 
 
@@ -29,7 +36,7 @@ class Recorded(messaging.JsonIOStream):  # type: ignore
 
 class Client:
     def __init__(self, command):
-        self.messages, self.heard, self.seen = [], threading.Condition(), 0
+        self.messages, self.arrived, self.seen = [], threading.Condition(), 0
         self.process = subprocess.Popen(command, stdin=subprocess.PIPE, stdout=subprocess.PIPE, stderr=subprocess.PIPE)
         stream = Recorded.from_process(self.process)
         stream.keep = self.keep
@@ -43,9 +50,9 @@ class Client:
         self.capabilities = self.body("initialize", **{**client, **initialize})
 
     def keep(self, message):
-        with self.heard:
+        with self.arrived:
             self.messages.append(message)
-            self.heard.notify_all()
+            self.arrived.notify_all()
 
     def ask(self, command, **arguments):
         """The response to a request, as it came."""
@@ -67,13 +74,13 @@ class Client:
     def first(self, test, since, what):
         """The first message from one on that meets a test, and its place; waited for."""
         end = time.monotonic() + SECONDS
-        with self.heard:
+        with self.arrived:
             while True:
                 for at in range(since, len(self.messages)):
                     if test(self.messages[at]):
                         return self.messages[at], at
                 left = end - time.monotonic()
-                if left <= 0 or not self.heard.wait(left):
+                if left <= 0 or not self.arrived.wait(left):
                     raise Ended(f"no {what} in {SECONDS} s; the status is {self.process.poll()}")
 
     def wait(self, event, since):
@@ -131,6 +138,73 @@ class Client:
 
     def repl(self, line):
         return self.body("evaluate", expression=line, context="repl")["result"].rstrip("\n")
+
+    # What walks ask, beside the above
+
+    def at(self):
+        """How many steps of calls.mixal lead to this state, or else the state."""
+        state = self.state()
+        return AFTER.index(state) if state in AFTER else state
+
+    def goes(self, command, **arguments):
+        """The reason of the stop after a request, and where it is."""
+        reason = self.move(command, **arguments)
+        return reason, self.at()
+
+    def starts(self, name, **more):
+        """A launch of one of the programs, and the first stop."""
+        return self.launch(str(PROGRAMS / name), **more)
+
+    def part(self, path, command, **arguments):
+        """A part of a body: names, and numbers or * for items."""
+        found = [self.body(command, **arguments)]
+        for name in path.split("."):
+            if name == "*":
+                found = [item for items in found for item in items]
+            else:
+                found = [it[int(name)] if name.isdigit() else it.get(name) for it in found]
+        return found if "*" in path else found[0]
+
+    def unable(self, *names):
+        """Those of some capabilities that the adapter has not."""
+        return [name for name in names if self.capabilities.get(f"supports{name}") is not True]
+
+    def points(self, path, *lines):
+        """The lines of breakpoints, each where it is verified."""
+        return [it["verified"] and it["line"] for it in self.lines(path, *lines)]
+
+    def watched(self, scope, name):
+        """Whether data breakpoints are verified, of a variable of a scope, or of a cell."""
+        place = self.page(name)[0] if scope == "Memory" else self.scopes()[scope]
+        name = f"{name:04}" if scope == "Memory" else name
+        part = self.body("dataBreakpointInfo", variablesReference=place, name=name)["dataId"]
+        return self.part("breakpoints.*.verified", "setDataBreakpoints", breakpoints=[{"dataId": part}])
+
+    def code(self, where, first, count):
+        """Instructions from a place on: the place of each, its text, and its line."""
+        given = {"memoryReference": where, "instructionOffset": first, "instructionCount": count}
+        found = self.body("disassemble", **given)["instructions"]
+        return [(it["address"], it["instruction"], it.get("line")) for it in found]
+
+    def value(self, scope, name):
+        return self.values(scope)[name].partition(" = ")[0]
+
+    def cell(self, number):
+        return self.page(number)[1]["value"].partition(" = ")[0]
+
+    def reference(self, cell):
+        return self.page(cell)[1]["memoryReference"]
+
+    def sets(self, scope, name, value):
+        """Sets a variable of a scope, or a cell: its value then, or why not."""
+        place = self.page(name)[0] if scope == "Memory" else self.scopes()[scope]
+        name = f"{name:04}" if scope == "Memory" else name
+        given = {"variablesReference": place, "name": name, "value": str(value)}
+        response = self.ask("setVariable", **given)
+        return response["body"]["value"] if response["success"] else response["message"]
+
+    def events(self):
+        return sorted({message["event"] for message in self.messages if "event" in message})
 
     def outputs(self, category="stdout"):
         return "".join(message["body"]["output"] for message in self.messages

@@ -1,6 +1,6 @@
 ;;; emacs.el --- Emacs dap-mode drives the adapter in batch  -*- lexical-binding: t; -*-
 
-;; ADAPTER has the program and its words, PROGRAMS the folder of the sources. The states that are wanted are those of the table in test_debug_talks.py.
+;; ADAPTER has the program and its words, PROGRAMS the folder of the sources. The states that are wanted are those of the table in talks.walk.
 ;; The last line counts.
 
 (setq user-emacs-directory (file-name-as-directory (make-temp-file "mixrev-emacs" t))

@@ -74,7 +74,7 @@ def request_of(body):
     return message if type(seq) in (int, float) and 0 <= seq < 2 ** 64 and seq % 1 == 0 else None
 
 
-def heard(text):
+def read_requests(text):
     """The requests of a text up to a disconnect, and the status that it ends with."""
     requests = []
     for body in bodies(text):

@@ -11,22 +11,17 @@ from hypothesis import event, given, note
 from hypothesis import strategies as st
 
 from tests.adapter import schema
-from tests.adapter.frames import frame, heard, messages, request, sent
+from tests.adapter.frames import frame, messages, read_requests, request, sent
+from tests.adapter.test_exact import rows_of
 from tests.drawing import altered, drawn_anew
 from tests.model import bundle as model
 
 HERE = os.path.dirname(os.path.abspath(__file__))
 SOURCE = os.path.join(HERE, "programs", "calls.mixal")
-TALK = [("initialize", {"adapterID": "mixrev", "linesStartAt1": True}), ("launch", {"program": SOURCE, "stopOnEntry": True}), ("configurationDone", {}),
-        ("threads", {}), ("next", {"threadId": 1}), ("stackTrace", {"threadId": 1}), ("scopes", {"frameId": 1}), ("stepIn", {"threadId": 1}),
-        ("setVariable", {"variablesReference": 1, "name": "A", "value": "-0"}), ("next", {"threadId": 1}), ("variables", {"variablesReference": 2}),
-        ("stepBack", {"threadId": 1}), ("evaluate", {"expression": "step 2", "context": "repl"}), ("evaluate", {"expression": "LOOP+1", "context": "watch"}),
-        ("goto", {"threadId": 1, "targetId": 16}), ("stepBack", {"threadId": 1}), ("continue", {"threadId": 1}),
-        ("setVariable", {"variablesReference": 1000, "name": "0099", "value": "5,1(4:4)"}), ("reverseContinue", {"threadId": 1}), ("next", {"threadId": 1}),
-        ("restart", {}), ("next", {"threadId": 1}), ("next", {"threadId": 1}), ("setVariable", {"variablesReference": 1, "name": "I1", "value": "4096"}),
-        ("readMemory", {"memoryReference": "0x48", "count": 12}), ("disassemble", {"memoryReference": "0x48", "instructionCount": 2}),
-        ("dataBreakpointInfo", {"variablesReference": 1, "name": "A"}), ("completions", {"text": "break lo", "column": 9}), ("next", {"threadId": 1}),
-        ("exceptionInfo", {"threadId": 1})]
+TALK = [
+    (name, {key: SOURCE if value == "$source" else value for key, value in given.items()})
+    for name, given, _ in rows_of("talk")
+]
 PROBE = [("evaluate", {"expression": "show changes", "context": "repl"}), ("evaluate", {"expression": "show all", "context": "repl"}), ("disconnect", {})]
 BODIES = [request(seq, *each) for seq, each in enumerate(TALK, 1)]
 ENDING = [request(seq, *each) for seq, each in enumerate(PROBE, 9001)]
@@ -63,7 +58,7 @@ def mutant(draw):
     return text + b"".join(map(frame, ENDING))
 
 
-class Untold(Exception):
+class NoCommand(Exception):
     """A request that the commands of a script have no words for."""
 
 
@@ -78,7 +73,7 @@ def commands(requests, responses):
         given = given if isinstance(given, dict) else {}
         if command == "launch":
             stops = given.get("stopOnEntry") is True
-        elif command in ("next", "stepIn"):
+        elif command == "stepIn":
             yield "step 1"
         elif command == "stepBack":
             yield "back 1"
@@ -99,15 +94,15 @@ def commands(requests, responses):
             if line is None:
                 continue
             if not line.split()[:1] or line.split()[0].lower() in ("forth", "goto"):
-                raise Untold
+                raise NoCommand
             yield line
-        elif command in ("writeMemory", "stepOut"):
-            raise Untold
+        elif command in ("writeMemory", "stepOut", "next"):
+            raise NoCommand
 
 
-def said(command, text):
+def check(command, text):
     """What is wrong with what the adapter makes of a text, in words, and whether the state was compared."""
-    requests, status = heard(text)
+    requests, status = read_requests(text)
     output, errors, ended = sent(command, text)
     if ended != status:
         return f"status {ended}, and not {status}: {errors!r}", False
@@ -134,7 +129,7 @@ def state(requests, responses):
         return "", False
     try:
         script = "".join(f"{line}\n" for line in commands(requests, responses))
-    except Untold:
+    except NoCommand:
         return "", False
     with open(SOURCE, "rb") as file:
         wanted = model.debug(file.read(), script.encode())[0].decode("latin-1")
@@ -149,7 +144,7 @@ WHOLE = b"".join(map(frame, BODIES + ENDING))
 def test_cut(command, part):
     """The talk that ends at each byte, a sixteenth of them."""
     for at in range(part, len(WHOLE) + 1, 16):
-        wrong, _ = said(command, WHOLE[:at])
+        wrong, _ = check(command, WHOLE[:at])
         assert not wrong, at
 
 
@@ -161,7 +156,7 @@ def test_mutants(command, request):
     def same(draw):
         text = mutant(draw)
         note(repr(text))
-        wrong, was_compared = said(command, text)
+        wrong, was_compared = check(command, text)
         event("the state is compared" if was_compared else "no state")
         compared.append(was_compared)
         assert not wrong

@@ -1,65 +1,52 @@
-"""Breakpoints
+"""Breakpoints: on which lines they are, what the adapter says of them, and where runs stop at them.
 
-On which lines they stay, what is told of them, and where runs stop that come to them: those with a condition or a hit count too, and those of data. What is
-wanted follows from docs/DAP.md and from the states of programs/calls.mixal, which test_debug_talks.py lists. A run comes to cell 12 (line 6) after 2, 5 and 8 steps,
-where rI1 is 3, 2, 1 and rJ is 0, 15, 15, and to cell 14 (line 8) after 4, 7 and 10 steps, where rI1 is 2, 1, 0."""
+What is wanted follows from docs/DAP.md and from the states of programs/calls.mixal in talks.walk. A
+run reaches cell 12 (line 6) after 2, 5 and 8 steps, where rI1 is 3, 2, 1 and rJ is 0, 15, 15, and
+cell 14 (line 8) after 4, 7 and 10 steps, where rI1 is 2, 1, 0."""
+
 import json
 import pathlib
 
+from tests.adapter.client import AFTER, CALLS, PROGRAMS
 from tests.adapter.frames import DONE, GOOD, answers, framed, launch, texts
-from tests.adapter.test_debug_talks import AFTER, CALLS, program
-from tests.adapter.test_exact import HI
+from tests.adapter.test_exact import rows_of
 
-ON = "continue"
 CELL_12 = "0x0048"  # 6 * 12 is 72
-
-
-def lines(*points):
-    """Breakpoints of lines, each a line, a condition and a hit count, of which there may be none."""
-    members = ("line", "condition", "hitCondition")
-    return "setBreakpoints", {"breakpoints": [{name: value for name, value in zip(members, point) if value is not None} for point in points]}
-
-
-def at_12(**given):
-    """A breakpoint of the instruction in cell 12."""
-    return "setInstructionBreakpoints", {"breakpoints": [{"instructionReference": CELL_12, **given}]}
-
-
-def watched(part):
-    """A breakpoint of a part of the machine."""
-    return "setDataBreakpoints", {"breakpoints": [{"dataId": part}]}
-
-
-def runs():
-    """The rows of breakpoints.rows: requests and their arguments, and moves with why and where each stops, the number of steps done."""
-    for row in pathlib.Path(__file__).with_name("breakpoints.rows").read_text().splitlines():
-        if not row.startswith("#"):
-            pieces = [piece.split(" ", 1) for piece in row.split(" | ")]
-            yield [(name, json.loads(more)) if more[0] == "{" else (name, more[:more.rindex(" ")], int(more.split()[-1])) for name, more in pieces]
-
-
-# What is told of a breakpoint of line 6 and of one in cell 12: whether it stands, or why not.
-GOOD_TEXTS = [{}, *({"condition": text} for text in ("rA", "cell *+1", " ", "-0", "rA > 3", "cell *+1<>rJ")),
-              *({"hitCondition": text} for text in ("1", "999999999999999999", "")), {"condition": "over", "hitCondition": "007"}]
-BAD_TEXTS = [*(({"condition": text}, "no such condition") for text in ("NOWHERE", "unit 16", "cell 4000", "rA > ", "3 < unit 16")),
-             ({"condition": "rB", "hitCondition": "0"}, "no such condition"), ({"condition": "1", "hitCondition": "x"}, "no such hit count"),
-             *(({"hitCondition": text}, "no such hit count") for text in ("0", "000", "-1", ">=3", "3 ", "1000000000000000000"))]
-
-# A jump to itself: a run pauses after a million steps, and passes as many breakpoints before that.
-LONG = [(lines((1, "0")), "pause", 1000000), (lines((1, None, "250000")), "breakpoint", 250000), (lines((1, "0"), (1, None, "1000001")), "pause", 1000000),
-        (lines((1, None, "100000")), "breakpoint", 100000), (lines((1, None, "1000000")), "breakpoint", 1000000)]
+SOURCE = pathlib.Path(CALLS).read_text()
+STATE = ("mix/state", {})
 
 # Of two lines that give a word for the same cell, a breakpoint stays on the second alone.
 TWICE = " NOP\n NOP\n ORIG 0\n NOP\n END 0\n"
-STAYS = '"body":{"breakpoints":[{"line":2},{"line":4}]}'
-MOVED = '"body":{"breakpoints":[{"instructionReference":"0x0000","line":4,"verified":true},{"instructionReference":"0x0006","line":2,"verified":true}]}'
+STAYS = [{"line": 2}, {"line": 4}]
+MOVED = [
+    {"instructionReference": "0x0000", "line": 4, "verified": True},
+    {"instructionReference": "0x0006", "line": 2, "verified": True},
+]
 
-# Programs that are not debugged, and what is told of each after its beginning: it ends by a HLT,
-# by a fault, or not at all. Whatever is asked to stop it is not verified.
-UNDEBUGGED = [(HI, ["output stdout HI\n", "terminated"]), (" CON 197\n END 0\n", ["output stderr M1 no such operation\n", "terminated"]),
-              ("X JMP X\n END X\n", ["stopped pause"])]
-UNVERIFIED = [("setBreakpoints", {"breakpoints": [{"line": 1}]}), ("setInstructionBreakpoints", {"breakpoints": [{"instructionReference": "0"}]}),
-              watched("cell 3"), ("setExceptionBreakpoints", {"filters": ["conflict"]})]
+
+def breakpoints(kind, *given):
+    return f"set{kind}Breakpoints", {"breakpoints": given}
+
+
+def runs():
+    """The rows of breakpoints.rows: requests with their arguments, and moves with why and where
+    each stops, as the number of steps done."""
+    for row in pathlib.Path(__file__).with_name("breakpoints.rows").read_text().splitlines():
+        pieces = [piece.split(" ", 1) for piece in row.split(" | ")]
+        if not row.startswith("#"):
+            yield [
+                (name, json.loads(more)) if more[0] == "{" else (name, *more.rsplit(" ", 1))
+                for name, more in pieces
+            ]
+
+
+def bodies(command, source, *requests):
+    """The breakpoints that come back for requests about them."""
+    found, ended = texts(command, framed(launch(source), DONE, *requests))
+    assert ended == GOOD
+    named = {name for name, _ in requests}
+    found = [it for it in map(json.loads, found) if it.get("command") in named]
+    return [it["body"]["breakpoints"] for it in found]
 
 
 def stops(command, source, requests):
@@ -70,94 +57,71 @@ def stops(command, source, requests):
         if message.get("event") == "stopped":
             reason = message["body"]["reason"]
         elif message.get("command") == "mix/state":
-            stopped.append((reason, message["body"]["location"], int(message["body"]["clock"])))
+            body = message["body"]
+            stopped.append((reason, body["location"], int(body["clock"])))
     return stopped, ended
 
 
 def test_runs(command):
-    source = pathlib.Path(CALLS).read_text()
     for pieces in runs():
-        asked, wanted = [], []
+        requests, wanted = [], []
         for name, given, *steps in pieces:
-            asked += [(name, {"threadId": 1}), ("mix/state", {})] if steps else [(name, given)]
-            wanted += [(given, *AFTER[steps[0]][1:])] if steps else []
-        assert stops(command, source, asked) == (wanted, GOOD), f"{pieces}"
+            requests += [(name, {"threadId": 1}), STATE] if steps else [(name, given)]
+            wanted += [(given, *AFTER[int(steps[0])][1:])] if steps else []
+        assert stops(command, SOURCE, requests) == (wanted, GOOD), f"{pieces}"
 
 
 def test_long_runs(command):
-    source = pathlib.Path(program("endless.mixal")).read_text()
-    for points, reason, steps in LONG:
-        assert stops(command, source, [points, (ON, {"threadId": 1}), ("mix/state", {})]) == ([(reason, 0, steps)], GOOD), f"{points}"
+    source = (PROGRAMS / "endless.mixal").read_text()
+    for name, given, wanted in rows_of("long"):
+        reason, steps = wanted.split()
+        found = stops(command, source, [(name, given), ("continue", {"threadId": 1}), STATE])
+        assert found == ([(reason, 0, int(steps))], GOOD), f"{given}"
 
 
 def test_verified(command):
-    """How a breakpoint is told, of a line and of an instruction."""
-    source = pathlib.Path(CALLS).read_text()
-    stands = [{"instructionReference": CELL_12, "line": 6, "verified": True}, {"instructionReference": CELL_12, "verified": True}]
-    rows = [(given, stands) for given in GOOD_TEXTS] + [(given, [{"message": why, "verified": False}] * 2) for given, why in BAD_TEXTS]
-    for given, wanted in rows:
-        requests = [("setBreakpoints", {"breakpoints": [{"line": 6, **given}]}), at_12(**given)]
-        found, ended = texts(command, framed(launch(source), DONE, *requests))
-        bodies = [message["body"]["breakpoints"] for message in map(json.loads, found) if str(message.get("command")).endswith("Breakpoints")]
-        assert (bodies, ended) == ([[point] for point in wanted], GOOD), f"{given}"
-    found, _ = texts(command, framed(launch(source), DONE, lines((99, "NOWHERE", "0"))))
-    assert any('"message":"no word from this line on"' in text for text in found), ("a line without a word is told first", found)
+    """What the adapter says of a breakpoint, of a line and of an instruction."""
+    instruction = {"instructionReference": CELL_12}
+    for _, given, wanted in rows_of("verified"):
+        found = bodies(
+            command,
+            SOURCE,
+            breakpoints("", {"line": 6, **given}),
+            breakpoints("Instruction", {**instruction, **given}),
+        )
+        if wanted == "verified":
+            good = {**instruction, "verified": True}
+            assert found == [[{**good, "line": 6}], [good]], f"{given}"
+        else:
+            assert found == [[{"message": wanted, "verified": False}]] * 2, f"{given}"
+    nowhere = {"line": 99, "condition": "NOWHERE", "hitCondition": "0"}
+    [[found]] = bodies(command, SOURCE, breakpoints("", nowhere))
+    assert found["message"] == "no word from this line on", "a line without a word comes first"
 
 
 def test_locations(command):
-    asked = ("breakpointLocations", {"line": 1, "endLine": 5})
-    found, _ = texts(command, framed(asked, launch(TWICE), asked, ("setBreakpoints", {"breakpoints": [{"line": 1}, {"line": 2}]})))
+    request = ("breakpointLocations", {"line": 1, "endLine": 5})
+    found, _ = texts(command, framed(request, launch(TWICE)))
     assert '"id":303' in found[0], ("no line before a launch", found)
-    for wanted in (STAYS, MOVED):
-        assert any(wanted in message for message in found), (wanted, found)
+    found = bodies(command, TWICE, request, breakpoints("", {"line": 1}, {"line": 2}))
+    assert found == [STAYS, MOVED]
 
 
 def test_undebugged(command):
-    """A program that is not debugged runs to its end."""
-    for source, wanted in UNDEBUGGED:
-        found = answers(command, [launch(source, noDebug=True), *UNVERIFIED, DONE])
-        for seq, (name, _) in enumerate(UNVERIFIED, 2):
+    """A program that is not debugged runs to its end; what is asked to stop it is not verified."""
+    unverified = [
+        breakpoints("", {"line": 1}),
+        breakpoints("Instruction", {"instructionReference": "0"}),
+        breakpoints("Data", {"dataId": "cell 3"}),
+        ("setExceptionBreakpoints", {"filters": ["conflict"]}),
+    ]
+    for _, source, wanted in rows_of("undebugged"):
+        found = answers(command, [launch(source, noDebug=True), *unverified, DONE])
+        for seq in range(2, 6):
             body = json.loads(found[seq][0])["body"]
-            assert body == {"breakpoints": [{"message": "not debugged", "verified": False}]}, f"{source!r}: {name} sets none"
-        events = [json.loads(text) for text in found[len(UNVERIFIED) + 2][1:]]
-        told_of = [" ".join([it["event"], *(it["body"][name] for name in ("category", "output", "reason") if name in it.get("body", {}))]) for it in events]
-        assert told_of == wanted, f"{source!r} is not debugged"
-
-
-def test_data(talk):
-    """A run stops after the step that altered a cell or a register, and a run back where that step is to be done next."""
-    talk.launch(CALLS)
-    page, _ = talk.page(102)
-    info = talk.body("dataBreakpointInfo", variablesReference=page, name="0102")
-    assert info["dataId"], ("a cell can be watched", info)
-    told = talk.body("setDataBreakpoints", breakpoints=[{"dataId": info["dataId"]}])["breakpoints"]
-    assert [point["verified"] for point in told] == [True], "it is verified"
-    assert (talk.move("continue"), talk.state()) == ("data breakpoint", AFTER[6]), "to the cell"
-    talk.move("continue")
-    assert talk.state() == AFTER[16], "never again"
-    assert (talk.move("reverseContinue"), talk.state()) == ("data breakpoint", AFTER[5]), "back to the cell"
-    info = talk.body("dataBreakpointInfo", variablesReference=talk.scopes()["Registers"], name="A")
-    talk.body("setDataBreakpoints", breakpoints=[{"dataId": info["dataId"]}])
-    # of the steps after the fifth only the fourteenth alters rA, and before it the first
-    assert (talk.move("continue"), talk.state()) == ("data breakpoint", AFTER[14]), "to the register"
-    assert (talk.move("reverseContinue"), talk.state()) == ("data breakpoint", AFTER[13]), "back to the register"
-    assert (talk.move("reverseContinue"), talk.state()) == ("data breakpoint", AFTER[0]), "and further"
-    told = talk.body("setDataBreakpoints", breakpoints=[{"dataId": "no such part"}])["breakpoints"]
-    assert [point["verified"] for point in told] == [False], "what is no part of the machine"
-    talk.close()
-
-
-def test_apart(talk):
-    """Breakpoints are the client's: no change sets or takes one away, and those of another source leave these."""
-    talk.launch(CALLS)
-    talk.lines(CALLS, 6)
-    other = talk.body("setBreakpoints", source={"path": program("fault.mixal")}, breakpoints=[{"line": 1}])["breakpoints"]
-    assert [point["verified"] for point in other] == [False], "a breakpoint in another source"
-    assert talk.repl("show changes") == "changes 0", "no change was made"
-    assert (talk.move("continue"), talk.state()) == ("breakpoint", AFTER[2]), "it stands beside those of another source"
-    talk.move("restart")
-    assert (talk.move("continue"), talk.state()) == ("breakpoint", AFTER[2]), "it stands after a restart"
-    talk.body("setBreakpoints", source={"path": CALLS}, breakpoints=[])
-    talk.move("continue")
-    assert talk.state() == AFTER[16], "it is gone"
-    talk.close()
+            assert body == {"breakpoints": [{"message": "not debugged", "verified": False}]}, source
+        events = []
+        for it in map(json.loads, found[6][1:]):
+            parts = (it.get("body", {}).get(name) for name in ("category", "output", "reason"))
+            events.append(" ".join([it["event"], *filter(None, parts)]))
+        assert events == json.loads(wanted), source

@@ -13,24 +13,7 @@ from tests.runs.bundles import bundles
 SOURCE = " ENTA 5\n INCA 7\n STA 100\n HLT\n END 0\n"
 DISCONNECT = b'Content-Length: 51\r\n\r\n{"seq":1,"type":"request","command":"disconnect"}  '
 CUT = b"mixrev: T7 input cut\n"
-LONG = b"mixrev: T6 input too long\n"
 
-# What a client sends, what it is told on standard error, and the status.
-ENDS = [(b"", b"", 0), (DISCONNECT, b"", 0), (b"hello\r\n\r\nContent-Length: 2\r\n\r\n{}", b"", 0), (b"Content-Length: 3\r\n\r\n{}", CUT, 2),
-        (b"Content-Length: 999999999\r\n\r\n", LONG, 2), (b"Content-Length: 134217729\n\n", LONG, 2), (b"Content-Length: 2\r\n", CUT, 2)]
-
-# A frame, and what follows it; a request after it is heard, so the body ends where it has to.
-WHOLE = [(b"Content-Length: 2\r\n\r\n{}", b""), (b"Content-Length: 2\r\n\r\n{}", b"Content"), (b"content-length:3\n\nabc", b"d"),
-         (b"Content-Type: x\r\nContent-Length: 0\r\n\r\n", b"rest"), (b"CONTENT-LENGTH: 1\r\nother\r\n\r\na", b"b"),
-         (b"Content-Length: 9\r\nContent-Length: 1\r\n\r\na", b"b"), (b"hello\r\n\r\n", b"rest")]
-
-# Beginnings of a frame: nothing is heard yet, and the input is cut; none at all is its end.
-PARTIAL = [b"", b"Content-Length: 2", b"Content-Length: 2\r\n", b"Content-Length: 2\r\n\r", b"Content-Length: 2\r\n\r\n", b"Content-Length: 2\r\n\r\n{"]
-
-# What is no request, and what is told of it.
-UNHEARD = [(frame(b"{"), "a message that is not JSON\\n"), (frame(b'"\xff"'), "a message that is not JSON\\n"),
-           (frame(b'{"seq":1,"type":"event","event":"x"}'), "a message that is not a request\\n"),
-           (frame(b'{"type":"request","command":"threads"}'), "a message that is not a request\\n"), (b"hello\r\n\r\n", "a header without Content-Length\\n")]
 UNCLEAR = '{"body":{"category":"important","output":"%s"},"event":"output","seq":%d,"type":"event"}'
 
 # What is told of the last four steps: a refusal, a reply, and the name of a part to be watched.
@@ -54,10 +37,6 @@ LINE = ' OUT 9(18)\n STZ 9\n STZ 10\n JBUS *(18)\n STZ 9\n HLT\n ORIG 9\n ALF "H
 DELAY = "%UNIT 18 delay 10\n"
 FILTER = '"exceptionBreakpointFilters":[{"default":false,"description":"A run stops at a step that uses a cell which a transfer under way forbids.",' \
     '"filter":"conflict","label":"Conflicts with a transfer under way"}]'
-
-# Texts to be checked: none, one with faults and a warning and a tab, labels, letters that are no
-# characters of MIX, and one with nothing to say of.
-CHECKED = ["", " JUMP 0\n\tLDA\tX\n LDA Y\n END 0\n", "X EQU 1\nX EQU 2\nENTA 5\n ALF  TOO LONG\n", "* \u00c4\n \u00c4\tNOP \u00d6\n END 5000\n", SOURCE]
 
 # A program that types a row; after its launch and the stop at its entry these are asked for, and of
 # what comes back these messages, each with its number.
@@ -84,28 +63,39 @@ def rows_of(part):
         yield row[1], json.loads(row[2]), row[3]
 
 
+def sends(part):
+    """The rows of a part with bytes that a client sends."""
+    return [(text.encode("latin-1"), wanted) for _, text, wanted in rows_of(part)]
+
+
 def test_ends(command):
-    for text, errors, status in ENDS:
-        output, *ended = sent(command, text)
-        assert ended == [errors, status], f"{text}: its end"
-        assert output == b"" or output.startswith(b"Content-Length: "), (f"{text}: what is sent", output)
+    for text, wanted in sends("ends"):
+        output, errors, status = sent(command, text)
+        assert f"{status} {errors.decode().strip()}" == wanted, text
+        assert output == b"" or output.startswith(b"Content-Length: "), (text, output)
 
 
 def test_frames(command):
-    for whole, rest in WHOLE:
+    for whole, rest in sends("whole"):
         found, ended = texts(command, whole + DISCONNECT)
-        assert ([json.loads(text).get("command") for text in found], ended) == ([None, "disconnect"], GOOD), f"{whole}, and a request behind it"
-        assert texts(command, whole + rest)[1] == ([CUT, 2] if rest else GOOD), f"{whole}, and {rest} behind it"
-    for partial in PARTIAL:
-        assert sent(command, partial) == ((b"", CUT, 2) if partial else (b"", *GOOD)), f"{partial}"
-    for given, text in UNHEARD:
+        commands = [json.loads(text).get("command") for text in found]
+        assert (commands, ended) == ([None, "disconnect"], GOOD), f"{whole}, and a request"
+        ended = texts(command, whole + rest.encode())[1]
+        assert ended == ([CUT, 2] if rest else GOOD), f"{whole}, and {rest}"
+    assert sent(command, b"") == (b"", *GOOD)
+    for partial, _ in sends("partial"):
+        assert sent(command, partial) == (b"", CUT, 2), partial
+    unread = sends("unread")
+    for given, text in unread:
         assert texts(command, given) == ([UNCLEAR % (text, 1)], GOOD), f"{given} is no request"
     # the numbers go on, before a launch and after it
-    asked = [framed(("initialize", {})), framed(launch(HI)), framed(DONE, ("next", {}))]
-    found, ended = texts(command, b"".join(given + each for (given, _), each in zip(UNHEARD, asked)))
-    assert ([json.loads(text)["seq"] for text in found], ended) == (list(range(1, len(found) + 1)), GOOD), "numbers of messages"
-    wanted = [UNCLEAR % (text, number) for (_, text), number in zip(UNHEARD, (1, 3, 6))]
-    assert [text for text in found if "important" in text] == wanted, ("each is told in its turn", found)
+    requests = [framed(("initialize", {})), framed(launch(HI)), framed(DONE, ("next", {}))]
+    every = b"".join(given + each for (given, _), each in zip(unread, requests))
+    found, ended = texts(command, every)
+    numbers = [json.loads(text)["seq"] for text in found]
+    assert (numbers, ended) == (list(range(1, len(found) + 1)), GOOD), "numbers of messages"
+    wanted = [UNCLEAR % (text, number) for (_, text), number in zip(unread, (1, 3, 6))]
+    assert [text for text in found if "important" in text] == wanted, found
 
 
 def test_messages(command):
@@ -212,7 +202,7 @@ def test_console(command):
 
 def test_reports(command, tmp_path):
     """A launch tells the report that `mixrev check` writes, after its answer and before all else, and nothing of a source without a fault or a warning."""
-    for source in CHECKED:
+    for _, source, _ in rows_of("checked"):
         (tmp_path / "a.mixal").write_text(source, encoding="utf-8")
         ran = subprocess.run([command[0], "check", "a.mixal"], cwd=tmp_path, capture_output=True, text=True)
         wanted = [("launch", ran.returncode == 0)] + [("stderr", ran.stdout)] * (ran.stdout != "") + [("initialized",)] * (ran.returncode == 0)
@@ -223,12 +213,15 @@ def test_reports(command, tmp_path):
 
 
 def test_checks(command):
-    """What there is to say of a text is what `mixrev check --json` says of it, whether a program is launched or not; and beside that remedies."""
-    for source in CHECKED:
+    """What there is to say of a text is what `mixrev check --json` says of it, with its help as the
+    remedy, whether a program is launched or not."""
+    for _, source, _ in rows_of("checked"):
         lines = subprocess.run([command[0], "check", "--json", "-"], input=source.encode(), capture_output=True).stdout.splitlines()
-        wanted = [{name: value for name, value in json.loads(line).items() if name != "file"} for line in lines]
+        wanted = [json.loads(line.replace(b'"help":', b'"remedy":')) for line in lines]
+        for diagnostic in wanted:
+            del diagnostic["file"]
         for opening in ([], [launch(SOURCE), DONE]):
             found, ended = texts(command, framed(*opening, ("mix/check", {"source": source})))
             told_of = [message["body"]["diagnostics"] for message in map(json.loads, found) if message.get("command") == "mix/check"]
-            same = [[{name: value for name, value in it.items() if name != "remedy"} for it in all_of if it["code"] != "no-halt"] for all_of in told_of]
+            same = [[it for it in all_of if it["code"] != "no-halt"] for all_of in told_of]
             assert (same, ended) == ([wanted], GOOD), f"{source!r} is checked, {'launched' if opening else 'not launched'}"

@@ -9,7 +9,7 @@ import statistics
 import time
 
 from tests.adapter.frames import Channel, request
-from tests.adapter.test_debug_talks import program
+from tests.adapter.client import PROGRAMS
 
 MOST = 10_000  # microseconds
 
@@ -36,7 +36,7 @@ class Talk(Channel):
 def test_steps(command):
     talk = Talk(command)
     talk.ask("initialize", adapterID="mixrev")
-    talk.ask("launch", "initialized", program=program("endless.mixal"), stopOnEntry=True)
+    talk.ask("launch", "initialized", program=str(PROGRAMS / "endless.mixal"), stopOnEntry=True)
     talk.ask("configurationDone", "stopped")
     medians = []
     for _ in range(10):
@@ -55,7 +55,7 @@ def test_steps(command):
 
 def test_long_runs(talk):
     """A run that comes to no stop pauses after a million changes, forwards and backwards; what the client sends meanwhile is heard then."""
-    talk.launch(program("endless.mixal"))
+    talk.launch(str(PROGRAMS / "endless.mixal"))
     began = time.monotonic()
     assert talk.move("continue") == "pause", "a long run pauses"
     took = time.monotonic() - began

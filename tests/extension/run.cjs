@@ -30,8 +30,8 @@ function packed({ size, files, room }) {
   const manifest = fs.readFileSync(path.join(room, "extension.vsixmanifest"), "utf8");
   for (const [, name] of manifest.matchAll(/extension\/([\w.]+)/g)) named.push(name);
   for (const name of named) row(`there is ${name}`, files.has(`/extension/${name.replace(/^\.\//, "")}`), true);
-  const [, first, patch, revision] = /^mixrev \((\d+\.\d+)\.(\d+)-(\d+)\)/.exec(fs.readFileSync(path.join(TOP, "package/changelog"), "utf8"));
-  row("the version", [about.version, manifest.includes(` Version="${about.version}"`)], [`${first}.${Number(patch) * 100 + Number(revision)}`, true]);
+  const [, version] = /^mixrev \((\S+)\)/.exec(fs.readFileSync(path.join(TOP, "package/changelog"), "utf8"));
+  row("the version", [about.version, manifest.includes(` Version="${about.version}"`)], [version, true]);
   const [, said] = /^\| `launch` \| \|([^|]*)\|$/m.exec(fs.readFileSync(path.join(TOP, "docs/DAP.md"), "utf8"));
   const names = [...said.matchAll(/`(\w+)`/g)].map(([, name]) => name).filter((name) => name !== "noDebug"); // VS Code's own
   row("the arguments of a launch", Object.keys(about.contributes.debuggers[0].configurationAttributes.launch.properties).sort(), names.sort());

@@ -42,6 +42,17 @@ def lines(*texts):
     return b"".join(text.encode() + b"\n" for text in texts)
 
 
+def repeated(text, length=0):
+    """A text in which {TEXT*100} is so many times the text, where # is the number of the copy, and N
+    is a length."""
+    text = re.sub(rb"\bN\b", b"%d" % length, text)
+
+    def copies(found):
+        return b"".join(found[1].replace(b"#", b"%d" % k) for k in range(int(found[2])))
+
+    return re.sub(rb"\{([^{}]+)\*(\d+)\}", copies, text)
+
+
 def rows_of(kind):
     """The rows of a kind in streams.rows, where `-` is nothing."""
     for _, name, fields, last in rowfiles.rows_of(HERE / "streams.rows"):

@@ -8,6 +8,8 @@ What a command asks for is what a script asks for with it as the last line, beyo
   units of 4, and room is made for three: a `set`, a `break` or a `clear` keeps one value; a step makes room for the 104 that the largest step keeps, since the
   room is made before the step is done. What a step here keeps takes one unit.
 - A reply is a text: it begins with 8 bytes or more and is doubled. So of N bytes it asks for fewer than four times N in all, and 8.
+- In the rows of streams.rows the first change asks for room for 4 runs and 4 numbers, 64 and 32 bytes,
+  the first step for 64 and 1,248: 104 values of three units.
 - `back`, a refusal and what `show` writes need nothing but their reply; a blank line and a remark need nothing. So it is with `forth`
   of steps, which say by themselves where they end.
 - A change that is refused needs nothing, and may have made room in the lists. What stands ahead stays until a new change is accepted.
@@ -15,16 +17,13 @@ What a command asks for is what a script asks for with it as the last line, beyo
 
 import pytest
 
-from tests.hostile.inputs import lines
-from tests.hostile.test_memory import EACH, FIRST
+from tests.hostile.inputs import lines, rows_of
+from tests.hostile.test_memory import FIRST
 
 LOOP = lines(" JMP *", " END 0")
 CELLS = 4000 * 4
-RUN, PLACE = 16, 8
+RUN = 16
 UNIT, MOST = 4, 104 * 3  # units of a step at most
-LISTS = [4 * RUN, 4 * PLACE]  # of the first change
-STEP = [4 * RUN, MOST * UNIT]  # of the first step, which is plain
-REFUSED: tuple = ([], LISTS)
 
 
 def grown(entry, first, needed):
@@ -35,39 +34,9 @@ def grown(entry, first, needed):
     return [entry * room for room in rooms]
 
 
-# What it is, the source, the lines before, the line, what its change may ask for, and its reply.
 ROWS = [
-    ("a blank line", FIRST, b"", b"    ", [], b""),
-    ("a remark", FIRST, b"", b"*   ", [], b""),
-    ("a step that keeps three values", FIRST, b"", b"step", STEP, b"ran 1 to 0001 clock 1: limit\n"),
-    ("a step of a MOVE, where 311 units are left", EACH["a move"].source, b"step\n", b"step", [2 * MOST * UNIT], b"ran 1 to 0002 clock 128: limit\n"),
-    ("the third step, for which there is room", FIRST, b"step 2\n", b"step", [], b"ran 1 to 0003 clock 4: limit\n"),
-    ("four steps", FIRST, b"", b"step 4", [*STEP, 2 * MOST * UNIT], b"ran 4 to 0004 clock 14: halt\n"),
-    ("the fifth step", LOOP, b"step 4\n", b"step", [], b"ran 1 to 0000 clock 5: limit\n"),
-    ("the ninth step", LOOP, b"step 8\n", b"step", [], b"ran 1 to 0000 clock 9: limit\n"),
-    ("a step that is at fault", lines(" STA 4000", " END 0"), b"", b"step", REFUSED, b"ran 0 to 0000 clock 0: fault M5 no such cell\n"),
-    ("back", FIRST, b"step 4\n", b"back 2", [], b"back 2 to 0002 clock 2\n"),
-    ("back all", FIRST, b"step 4\n", b"back all", [], b"back 4 to 0000 clock 0\n"),
-    ("back break", FIRST, b"step 4\n", b"back break", [], b"back 4 to 0000 clock 0\n"),
-    ("forth", FIRST, b"step 4\nback 2\n", b"forth 2", [], b"forth 2 to 0004 clock 14\n"),
-    ("forth all", FIRST, b"step 4\nback 2\n", b"forth all", [], b"forth 2 to 0004 clock 14\n"),
-    ("goto", FIRST, b"step 4\n", b"goto 1", [], b"back 3 to 0001 clock 1\n"),
-    ("a step again, where changes stand ahead", FIRST, b"step 4\nback 4\n", b"step", [], b"ran 1 to 0001 clock 1: limit\n"),
-    ("set", FIRST, b"", b"set A 5", [*LISTS, 4 * UNIT], b"ok\n"),
-    ("the second set", FIRST, b"set A 5\n", b"set X 5", [], b"ok\n"),
-    ("the third set, where two units are left", FIRST, b"set A 5\nset X 5\n", b"set A 6", [8 * UNIT], b"ok\n"),
-    ("the fifth set", FIRST, b"set A 5\nset X 5\nset A 6\nset X 6\n", b"set A 7", [8 * RUN, 8 * PLACE], b"ok\n"),
-    ("break", FIRST, b"", b"break 3", [*LISTS, 4 * UNIT], b"ok\n"),
-    ("set, refused", FIRST, b"", b"set J -1", REFUSED, b"? C5 refused by the machine: M7 index overflow\n"),
-    ("show clock", FIRST, b"", b"show clock", [], b"clock 0\n"),
-    ("show changes", FIRST, b"step 4\n", b"show changes", [], b"changes 4\n"),
-    ("show cells", FIRST, b"", b"show cells 0 0", [], b"0000 + 00 05 00 02 48\n"),
-    ("show breaks", FIRST, b"", b"show breaks", [], b"breaks\n"),
-    ("no command", FIRST, b"", b"jump", [], b"? C1 no such command\n"),
-    ("a bad argument", FIRST, b"", b"step 0 x", [], b"? C2 bad argument\n"),
-    ("a number out of range", FIRST, b"", b"step 0", [], b"? C3 number out of range\n"),
-    ("fewer changes than asked", FIRST, b"", b"back 1", [], b"? C4 fewer changes than asked\n"),
-    ("no such change", FIRST, b"step 4\n", b"back until X", [], b"? C6 no such change\n"),
+    (name.decode(), FIRST if source is None else source, *others)
+    for name, source, *others in rows_of("asks")
 ]
 STEPS = 100000
 
@@ -99,9 +68,11 @@ def is_for_reply(asked, reply):
 def test_command(runner, name, source, before, line, needed, reply):
     output, asked = beyond(runner, source, before, line)
     assert asked is not None
-    ways = needed if isinstance(needed, tuple) else (needed,)
+    *other, sizes = needed.rpartition(b"or ")
+    sizes = sorted(map(int, sizes.split()))
+    ways = ([], sizes) if other[1] else (sizes,)
     first = [(sorted(asked[: len(some)]), asked[len(some) :]) for some in ways]
-    assert any(one == sorted(some) and is_for_reply(more, reply) for some, (one, more) in zip(ways, first))
+    assert any(one == some and is_for_reply(more, reply) for some, (one, more) in zip(ways, first))
     assert output == reply
 
 

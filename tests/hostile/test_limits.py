@@ -6,7 +6,7 @@ import subprocess
 
 import pytest
 
-from tests.hostile.inputs import bundle, lines
+from tests.hostile.inputs import bundle, lines, repeated, rows_of
 from tests.model.program import SECONDS
 
 SOURCE, SCRIPT, DECK, BUNDLE = 1048576, 1048576, 33554432, 41943040
@@ -85,28 +85,11 @@ def whole_source(source):
 
 def counts():
     """Lines, instructions, steps and the clock."""
-    yield "20,000 lines", b"\n" * 19999 + b" END 7\n%SCRIPT\nback all", (b"back 0 to 0007 clock 0\n", b"", 0)
-    yield "20,001 lines", b"\n" * 20000 + END, (b"line 20001: A16 source too long\n", b"", 1)
-    yield "20,001 lines, the last after END", b"\n" * 19999 + END + b"X", (b"", b"", 0)
-    yield "20,000 lines and no END", b"\n" * 20000, (b"line 20001: A13 no END\n", b"", 1)
-    yield "4,000 instructions", b" HLT\n" * 4000 + b" END 3999\n%SCRIPT\nstep\n", (b"ran 1 to 4000 clock 10: halt\n", b"", 0)
-    yield "4,001 instructions", b" HLT\n" * 4001 + END, (b"line 4001: A11 location outside 0 to 3999\n", b"", 1)
-    yield "1,000,000 steps", b" JMP *\n" + END + b"%SCRIPT\nrun 1000000\nback 999999\nforth 999999\nstep 1000000\nback all\nshow changes\n", \
-        (b"ran 1000000 to 0000 clock 1000000: limit\nback 999999 to 0000 clock 1\nforth 999999 to 0000 clock 1000000\n"
-         b"ran 1000000 to 0000 clock 2000000: limit\nback 2000000 to 0000 clock 0\nchanges 0\n", b"", 0)
+    for name, text, output, status in rows_of("limit"):
+        yield name.decode(), repeated(text), (output, b"", int(status))
     yield "1,000,000 steps told", b" JMP *\n" + END + b"%SCRIPT\ntrace 1000000\n", \
         (b"      1  0000  JMP 0                1u  J + 00 00 -> + 00 01\n" + b"".join(b"%7d  0000  JMP 0                1u\n" % k for k in range(2, 1000001)) +
          b"ran 1000000 to 0000 clock 1000000: limit\n", b"", 0)
-    yield "1,000,001 steps", END + b"%SCRIPT\nrun 1000001\nstep 1000001\ntrace 1000001\nrun 1000001 until A\nshow changes\n", \
-        (b"? C3 number out of range\n" * 4 + b"changes 0\n", b"", 3)
-    typed = b" OUT 100(19)\n OUT 100(19)\n NOP\n" + END + b"%DEVICES\n%UNIT 19 delay "
-    script = b"\n%SCRIPT\nstep 2\nstep\nshow clock\nback all\nshow clock\n"
-    full = b"fault M14 clock full\n"
-    yield "a clock of 10^18", typed + b"9" * 17 + b"8" + script, \
-        (b"ran 2 to 0002 clock 1000000000000000000: limit\nran 0 to 0002 clock 1000000000000000000: " + full +
-         b"clock 1000000000000000000\nback 2 to 0000 clock 0\nclock 0\n", b"", 3)
-    yield "a clock that would pass 10^18", typed + b"9" * 18 + script, \
-        (b"ran 1 to 0001 clock 1: " + full + b"ran 0 to 0001 clock 1: " + full + b"clock 1\nback 1 to 0000 clock 0\nclock 0\n", b"", 3)
 
 
 WORDS = b" ".join([b"+0102030405"] * 100) + b"\n"
@@ -166,12 +149,9 @@ def written_units():
 
 def refused_decks():
     """Each fault of a deck, at a line of its own."""
-    tape, word = lines("%UNIT 0"), lines("+0000000000")
-    for line, fault, before, deck in [
-            (1, b"K1 bad header", 0, b"X"), (2, b"K2 unit given twice", 0, tape + tape), (9, b"K3 line too long", 7, lines("%UNIT 16", "*".rjust(81))),
-            (10, b"K4 no MIX character", 8, lines("%UNIT 16", "?")), (99, b"K5 bad word", 97, tape + b"X"), (100, b"K6 part of a block", 97, tape + word),
-            (4096, b"K7 unit takes no input", 4095, lines("%UNIT 17")), (20001, b"K8 too many blocks", 18999, lines("%UNIT 16") + b"\n" * 1001)]:
-        yield fault.decode(), bundle(END, b"", b"\n" * before + deck), refused_deck(line, fault)
+    for line, fault, deck in rows_of("deck"):
+        deck = repeated(deck.replace(b"WIDE", b"*".rjust(81)))
+        yield fault.decode(), bundle(END, b"", deck), refused_deck(int(line), fault)
 
 
 def by_files(runner):

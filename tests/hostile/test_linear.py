@@ -15,7 +15,7 @@ import pytest
 
 from tests.adapter.frames import DONE, framed, launch
 from tests.asking import line as typed
-from tests.hostile.inputs import HERE, bundle, lines
+from tests.hostile.inputs import HERE, bundle, lines, repeated, rows_of
 
 pytestmark = pytest.mark.skipif(not shutil.which("valgrind"), reason="what counts instructions, since there is no valgrind")
 
@@ -48,28 +48,11 @@ def instructions(runner, text, words=()):
     return int(re.search(rb"Collected : (\d+)", said)[1])
 
 
-def tape(blocks):
-    return bundle(b" END 0\n", b"", b"%UNIT 0\n" + (b" ".join([b"+0102030405"] * 100) + b"\n") * blocks)
-
-
-# Name, the text of a length, and the first length.
+TAPE = b" ".join([b"+0102030405"] * 100) + b"\n"
+# Name, the text of a length, the first length, the words, and the power with which the work may grow.
 TEXTS = [
-    ("a deck of tape", tape, 50),
-    ("a deck of cards", lambda n: bundle(b" END 0\n", b"", b"%UNIT 16\n" + b"A CARD OF TWENTY-FIVE CHARACTERS\n" * n), 200),
-    ("a source of remarks", lambda n: b"* a remark of some characters\n" * n + b" END 0\n", 4000),
-    ("a source of instructions", lambda n: b" LDA 5,1(0:3)\n" * n + b" END 0\n", 900),
-    ("a source of symbols", lambda n: b"".join(b"S%d EQU %d\n" % (k, k) for k in range(n)) + b" END 0\n", 1000),
-    ("a source of names used before they are defined", lambda n: b"".join(b" JMP S%d\n" % k for k in range(n)) + b" END 0\n", 400),
-    ("a script of remarks", lambda n: bundle(b" END 0\n", b"* a remark of some characters\n" * n), 8000),
-    ("a script of commands", lambda n: bundle(b" END 0\n", b"show clock\n" * n), 500),
-    ("steps", lambda n: bundle(b" JMP *\n END 0\n", b"run %d\n" % n), 20000),
-    ("steps taken back", lambda n: bundle(b" JMP *\n END 0\n", b"run 80000\nback %d\n" % n), 20000),
-    ("steps looked through in vain", lambda n: bundle(b" JMP *\n END 0\n", b"run %d\nback until cell 3999\n" % n), 20000),
-    ("steps looked through up to the first", lambda n: bundle(b" JMP *\n END 0\n", b"run %d\nback until J\nforth until A\n" % n), 20000),
-    ("steps counted", lambda n: bundle(b" JMP *\n END 0\n", b"run %d\nshow counts\n" % n), 20000),
-    ("steps told", lambda n: bundle(b" JMP *\n END 0\n", b"trace %d\nshow last %d\n" % (n, n)), 200),
-    ("steps between two states", lambda n: bundle(b" JMP *\n END 0\n", b"run %d\nshow diff 0\n" % n), 20000),
-    ("a long line", lambda n: b"*" * n + b"\n END 0\n", 50000),
+    (name.decode(), lambda n, text=text: repeated(text.replace(b"TAPE", TAPE), n), int(length), "", 1)
+    for name, length, text in rows_of("linear")
 ]
 # The second change conflicts with a transfer that takes very long, and no other does.
 SOURCE = bundle(lines(" OUT 200(18)", " STZ 200", "LOOP INCA 1", " STA 100", " JMP LOOP", " END 0"), b"", b"%UNIT 18 delay 1000000000\n")
@@ -132,7 +115,7 @@ LISTS = [
     ("changes of a map", looping("show map"), 1000, "dap", 1),
     ("displays", lambda n: b"display A\n" * n + b"step\n", 50, "debug source", 1),
 ]
-ROWS = [*((*row, "", 1) for row in TEXTS), *LISTS]
+ROWS = [*TEXTS, *LISTS]
 
 
 @pytest.mark.parametrize("name, text, length, words, power", ROWS, ids=[row[0] for row in ROWS])

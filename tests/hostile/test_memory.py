@@ -10,11 +10,11 @@ refused."""
 import itertools
 import json
 import re
+from pathlib import Path
 
 import pytest
 
 from tests.adapter.frames import DONE, frame, framed, launch
-from tests.asking import line
 from tests.hostile.inputs import BUNDLES, bundle, lines
 from tests.model.program import Runner
 
@@ -77,20 +77,17 @@ def check_refused(runner, text, words, goes_on=False):
 
 SUM = lines(" ENT1 2 [1]", "LOOP DEC1 1 [N]", " J1P LOOP [M]", " OUT 0(18)", " HLT 0 [N*]", " END")
 FAULTY = lines("A EQU 1,", " LAD X", " LDA 5,7", " ALF ABCDEF", "2 HLT", " END 0")
-NODES = {"of": "from 0 to 3, 1 words each, label 0, links 0(0:2), heads I1 0(0:2)"}
-TALK = [("initialize", {}), launch(SUM.decode()), DONE, line("run 9"), ("mix/nodes", NODES),
-        ("mix/passages", {"of": "LOOP of A 0..2 assert A < 1"}), ("mix/analysis", {"of": "M=3"})]
-TEXT, AT = {"uri": "a"}, {"line": 2, "character": 2}
-OPENED = {**TEXT, "languageId": "mixal", "version": 1, "text": FAULTY.decode()}
-EDITED = [("initialize", {"capabilities": {}}), ("textDocument/didOpen", {"textDocument": OPENED}),
-          ("textDocument/formatting", {"textDocument": TEXT}),
-          ("textDocument/hover", {"textDocument": TEXT, "position": AT})]
-MESSAGES = [{"id": k, "method": each[0], "params": each[1]} for k, each in enumerate(EDITED)]
+ASKED = Path(__file__).with_name("asked.txt").read_text().splitlines()
+ASKED = [row.split(" ", 2) for row in ASKED if row[0] != "#"]
+TALK = [("initialize", {}), launch(SUM.decode()), DONE,
+        *((name, json.loads(given)) for who, name, given in ASKED if who == "dap")]
+MESSAGES = [{"id": k, "method": name, "params": json.loads(given)}
+            for k, (who, name, given) in enumerate(ASKED) if who == "lsp"]
 # The words of a plan, and its standard input.
 PLANS = {
     "run --counts --csv -": SUM, "run --formulas N=2 --latex -": SUM, "run --trace --json -": SUM,
     "run --svg drawn -": SUM, "run --keep kept -": SUM, "check -": FAULTY, "check --json -": FAULTY,
-    "list --latex -": SUM, "dap": framed(*TALK),
+    "run --writes I1 --csv -": SUM, "list --latex -": SUM, "dap": framed(*TALK),
     "lsp": b"".join(frame(json.dumps(message).encode()) for message in MESSAGES),
 }
 

@@ -18,7 +18,6 @@ TEXT = bundle(HELLO, GREETED)
 LONG = bundle(lines(" END 0"), lines(*["show cells 0 3999"] * 20))
 T2 = b"mixrev: T2 read failed\n"
 T3 = b"mixrev: T3 write failed\n"
-NO_FILE, FOLDER = b": No such file or directory", b": Is a directory"
 
 
 def shell(command, program, name, more=()):
@@ -88,21 +87,12 @@ def test_files(program, place):
     source, script = os.path.join(place, "source"), os.path.join(place, "script")
     for name, text in [(source, HELLO), (script, GREETED)]:
         pathlib.Path(name).write_bytes(text)
-    gone = os.path.join(place, "gone")
-    not_opened = (b"", b"mixrev: T4 not opened: %s%s\n" % (gone.encode(), NO_FILE), 2)
-    is_folder, input_is_folder = ((b"", b"mixrev: T4 not opened: %s%s\n" % (file, FOLDER), 2) for file in (b"/", b"-"))
-    # a file that is opened, and gives an error at its first read
-    memory = "/proc/self/mem"
-    unread = (b"", b"mixrev: T2 read failed: %s\n" % memory.encode(), 2)
-    for command, wanted in [
-            ("list /", is_folder), ("debug / $2", is_folder), ("debug $1 /", is_folder), ("debug $1 $2 --devices /", is_folder),
-            ("list $3", not_opened), ("debug $3 $2", not_opened), ("debug $1 $3", not_opened), ("debug $1 $2 --devices $3", not_opened),
-            ("debug / $3", is_folder), ("list $1/a", (b"", b"mixrev: T4 not opened: %s/a: Not a directory\n" % source.encode(), 2)),
-            ("list - </", input_is_folder), ("list - <&-", (b"", b"mixrev: T2 read failed: -\n", 2)), ("list $1 >/dev/full", (b"", T3, 2)), ("debug $1 $2 >/dev/full", (b"", T3, 2)), ("list $1 >&-", (b"", T3, 2)),
-            ("list $4", unread), ("debug $4 $2", unread), ("debug $1 $4", unread), ("debug $1 $2 --devices $4", unread), ("debug $4", unread),
-            ("run $4", unread), ("run $1 --devices $4", unread), ("run $1 --cards $4", unread), ("check $1 $4 $4 $1", unread),
-            ("check $1 $3", not_opened), ("check $1 /", is_folder), ("check - </dev/null >/dev/full", (b"", T3, 2)), ("check - </dev/null >&-", (b"", T3, 2))]:
-        assert shell('"$0" ' + command, program, source, [script, gone, memory]) == wanted, command
+    names = {b"$1": source, b"$3": os.path.join(place, "gone"), b"$4": "/proc/self/mem"}
+    for command, told in rows_of("file"):
+        for name, path in names.items():
+            told = told.replace(name, path.encode())
+        found = shell(f'"$0" {command.decode()}', program, source, [script, *[*names.values()][1:]])
+        assert found == (b"", told, 2), command
 
 
 def test_full_disk(program, place):

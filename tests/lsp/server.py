@@ -2,6 +2,7 @@
 import json
 import re
 import subprocess
+import threading
 
 from tests import TOP
 from tests.adapter.frames import Channel
@@ -31,7 +32,12 @@ class Client(Channel):
         self.send(json.dumps(message).encode())
 
     def hear(self):
-        return json.loads(self.read_frame())
+        """The next message; a server that says none for two minutes is ended."""
+        late = threading.Timer(120, self.process.kill)
+        late.start()
+        body = self.read_frame()
+        late.cancel()
+        return json.loads(body)
 
     def ask(self, method, params):
         """The result of a request, or its error."""

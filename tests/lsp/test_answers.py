@@ -123,7 +123,9 @@ SHOWN = {
         f"{point(edit['range']['start'])} {edit['newText']}" for edit in found["changes"][URI]
     ),
     "textDocument/prepareRename": lambda found: [f"{point(found['start'])}-{point(found['end'])}"],
-    "textDocument/documentHighlight": lambda found: [str(one["kind"]) for one in found],
+    "textDocument/documentHighlight": lambda found: [
+        f"{'=' if one['kind'] == 3 else '@'}{point(one['range']['start'])}" for one in found
+    ],
     "textDocument/documentSymbol": lambda found: [one["name"] for one in found],
     "textDocument/completion": lambda found: [one["label"] for one in found],
     "textDocument/hover": hover,

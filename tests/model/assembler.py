@@ -6,8 +6,7 @@ from collections import namedtuple
 
 from tests.model.expressions import address, w_value
 from tests.model.lines import read_line
-from tests.model.pieces import lines_of
-from tests.model.texts import Fault
+from tests.model.texts import Fault, lines_of
 from tests.model.words import ZERO, joined, number
 
 SOURCE_BYTES = 1048576
@@ -71,9 +70,6 @@ def assemble(source):
             second_pass(program)
             return program
     raise Fault("A13", len(lines) + 1)
-
-
-# The first pass
 
 
 def first_pass(program, at, text):
@@ -182,9 +178,6 @@ def end(program, at, line):
         raise Fault("A15")
     if line.loc and line.loc[0] == "local":
         define(program, at, line.loc, here)
-
-
-# The second pass
 
 
 def second_pass(program):

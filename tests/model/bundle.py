@@ -3,10 +3,9 @@
 from tests.model.assembler import assemble
 from tests.model.commands import Session
 from tests.model.deck import read_deck
-from tests.model.listing import listing
+from tests.model.history import listing
 from tests.model.world import World
-from tests.model.pieces import lines_of
-from tests.model.texts import Fault
+from tests.model.texts import Fault, lines_of
 
 BUNDLE_BYTES = 41943040
 SCRIPT_BYTES = 1048576
@@ -50,11 +49,11 @@ def execute(source, deck, script, watch=None):
     try:
         program = assemble(source)
     except Fault as fault:
-        return ("line %d: %s\n" % (fault.line, fault.told())).encode(), b"", 1
+        return ("line %d: %s\n" % (fault.line, fault.text())).encode(), b"", 1
     try:
         units = read_deck(deck)
     except Fault as fault:
-        return tool_fault(Fault("T5", more="%d: %s" % (fault.line, fault.told())))
+        return tool_fault(Fault("T5", more="%d: %s" % (fault.line, fault.text())))
     if len(script) > SCRIPT_BYTES:
         return tool_fault(Fault("T6"))
     world = World(program.words, program.start, units)
@@ -65,4 +64,4 @@ def execute(source, deck, script, watch=None):
 
 
 def tool_fault(fault):
-    return b"", ("mixrev: %s\n" % fault.told()).encode(), 2
+    return b"", ("mixrev: %s\n" % fault.text()).encode(), 2

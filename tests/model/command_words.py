@@ -66,9 +66,6 @@ def cells_between(session, first, last):
     return range(first, last + 1)
 
 
-# What a command stops at
-
-
 def condition(session, words):
     """The words behind `until`, conditions with OR between them: all read before one is tested for
     its range."""

@@ -7,9 +7,8 @@ from tests.model.command_words import (
 )
 from tests.model.operations import NAMES
 from tests.model.world import do, replay
-from tests.model.pieces import words_of
 from tests.model.show import show
-from tests.model.texts import Fault
+from tests.model.texts import Fault, words_of
 
 STEPS = 1000000  # the most that one command does
 
@@ -31,11 +30,9 @@ class Session:
             return b"", True
         self.faulted = False
         try:
-            if words[0] not in COMMANDS:
-                raise Fault("C1")
-            reply = COMMANDS[words[0]](self, words[1:])
+            reply = reply_of(self, words)
         except Fault as fault:
-            return b"? " + fault.told().encode() + b"\n", False
+            return b"? " + fault.text().encode() + b"\n", False
         return reply.encode("latin-1"), not self.faulted
 
     def change(self, change):
@@ -48,7 +45,7 @@ class Session:
         try:
             self.change(change)
         except Fault as fault:
-            raise Fault("C5", more=fault.told())
+            raise Fault("C5", more=fault.text())
         return "ok\n"
 
     def take_back(self, count):
@@ -63,29 +60,44 @@ class Session:
         return ("+", self.world.loc)
 
 
-# The commands
-
-
-def step(session, words, traces=False):
+def reply_of(session, words):
+    """All words of a command are read before any is tested for its range."""
     match words:
-        case []:
-            return ran(session, 1, False, traces=traces)
-        case [word]:
-            return ran(session, digits_of(word), False, traces=traces)
-    raise Fault("C2")
+        case [b"STEP" | b"TRACE" as word]:
+            return ran(session, 1, False, traces=word == b"TRACE")
+        case [b"STEP" | b"TRACE" as word, number]:
+            return ran(session, digits_of(number), False, traces=word == b"TRACE")
+        case [b"RUN", number]:
+            return ran(session, digits_of(number), True)
+        case [b"RUN", number, b"UNTIL", *words]:
+            return ran(session, digits_of(number), True, condition(session, words))
+        case [b"BACK" | b"FORTH" as word, b"UNTIL", *words]:
+            until = history.back_until if word == b"BACK" else history.forth_until
+            line, number = until(session, words)
+            return line + gone(session, word, number)
+        case [b"BACK" | b"FORTH" as word, b"ALL"]:
+            return gone(session, word, len(moves_of(session, word)))
+        case [b"BACK", b"BREAK"]:
+            return gone(session, b"BACK", to_a_break(session))
+        case [b"BACK" | b"FORTH" as word, number]:
+            return gone(session, word, asked(number, moves_of(session, word)))
+        case [b"GOTO", number]:
+            more = digits_of(number) - len(session.changes)
+            if more > len(session.ahead):
+                raise Fault("C4")
+            return gone(session, b"BACK" if more < 0 else b"FORTH", abs(more))
+        case [b"BREAK" | b"CLEAR" as word, *place]:
+            change = (word.decode().lower(), place_of_break(session, place))
+            return session.change_or_refuse(change)
+        case [b"SET", *words]:
+            return session.change_or_refuse(setting(session, words))
+        case [b"SHOW", *words]:
+            return show(session, words)
+    raise Fault("C2" if words[0] in COMMANDS else "C1")
 
 
-def trace(session, words):
-    return step(session, words, traces=True)
-
-
-def run(session, words):
-    match words:
-        case [word]:
-            return ran(session, digits_of(word), True)
-        case [word, b"UNTIL", *words]:
-            return ran(session, digits_of(word), True, condition(session, words))
-    raise Fault("C2")
+def moves_of(session, word):
+    return session.changes if word == b"BACK" else session.ahead
 
 
 def ran(session, limit, stops, cond=None, traces=False):
@@ -110,28 +122,14 @@ def ran(session, limit, stops, cond=None, traces=False):
             elif done == limit:
                 end = "limit"
             if traces or end == "until":
-                lines.append(history.told(*move))
+                lines.append(history.change_line(*move))
         except Fault as fault:
             name = fault.number
-            end = "fault " + fault.told()
+            end = "fault " + fault.text()
             session.faulted = True
         if session.watch:
             session.watch(before, name, session.world)
     return "".join(lines) + "ran %d to %s: %s\n" % (done, session.place_and_clock(), end)
-
-
-def back(session, words):
-    match words:
-        case [b"UNTIL", *words]:
-            line, number = history.back_until(session, words)
-            return line + gone_back(session, number)
-        case [b"ALL"]:
-            return gone_back(session, len(session.changes))
-        case [b"BREAK"]:
-            return gone_back(session, to_a_break(session))
-        case [word]:
-            return gone_back(session, asked(word, session.changes))
-    raise Fault("C2")
 
 
 def asked(word, changes):
@@ -144,9 +142,16 @@ def asked(word, changes):
     return number
 
 
-def gone_back(session, number):
-    session.take_back(number)
-    return "back %d to %s\n" % (number, session.place_and_clock())
+def gone(session, word, number):
+    """Takes changes back, or does them again."""
+    again, left = session.ahead[:number], session.ahead[number:]
+    if word == b"BACK":
+        session.take_back(number)
+    else:
+        for change in again:
+            session.change(change)
+        session.ahead = left
+    return "%s %d to %s\n" % (word.decode().lower(), number, session.place_and_clock())
 
 
 def to_a_break(session):
@@ -160,35 +165,6 @@ def to_a_break(session):
     return len(session.changes) - left
 
 
-def forth(session, words):
-    match words:
-        case [b"UNTIL", *words]:
-            line, number = history.forth_until(session, words)
-            return line + gone_forth(session, number)
-        case [b"ALL"]:
-            return gone_forth(session, len(session.ahead))
-        case [word]:
-            return gone_forth(session, asked(word, session.ahead))
-    raise Fault("C2")
-
-
-def gone_forth(session, number):
-    again, left = session.ahead[:number], session.ahead[number:]
-    for change in again:
-        session.change(change)
-    session.ahead = left
-    return "forth %d to %s\n" % (number, session.place_and_clock())
-
-
-def goto(session, words):
-    if len(words) != 1:
-        raise Fault("C2")
-    more = digits_of(words[0]) - len(session.changes)
-    if more > len(session.ahead):
-        raise Fault("C4")
-    return gone_back(session, -more) if more < 0 else gone_forth(session, more)
-
-
 def place_of_break(session, words):
     """The cell of a line, or one that is given."""
     match words:
@@ -199,33 +175,21 @@ def place_of_break(session, words):
     raise Fault("C2")
 
 
-def break_(session, words):
-    return session.change_or_refuse(("break", place_of_break(session, words)))
-
-
-def clear(session, words):
-    return session.change_or_refuse(("clear", place_of_break(session, words)))
-
-
-def set_(session, words):
+def setting(session, words):
+    """The change that a `set` asks for."""
     match words:
         case [b"CELL", place, word]:
             place, word = expression_in(session, place), w_value_in(session, word)
-            change = ("cell", place_in_range(place), word)
+            return ("cell", place_in_range(place), word)
         case [b"LOC", place]:
-            change = ("loc", place_in_range(expression_in(session, place)))
+            return ("loc", place_in_range(expression_in(session, place)))
         case [b"OVER", b"ON" | b"OFF" as flag]:
-            change = ("over", flag == b"ON")
+            return ("over", flag == b"ON")
         case [b"CMP", b"L" | b"E" | b"G" as sign]:
-            change = ("cmp", sign.decode())
+            return ("cmp", sign.decode())
         case [name, word] if name.decode("latin-1") in NAMES:
-            change = ("register", name.decode(), w_value_in(session, word))
-        case _:
-            raise Fault("C2")
-    return session.change_or_refuse(change)
+            return ("register", name.decode(), w_value_in(session, word))
+    raise Fault("C2")
 
 
-COMMANDS = {
-    b"STEP": step, b"RUN": run, b"BACK": back, b"FORTH": forth, b"BREAK": break_, b"CLEAR": clear,
-    b"SET": set_, b"SHOW": show, b"GOTO": goto, b"TRACE": trace,
-}
+COMMANDS = b"STEP TRACE RUN BACK FORTH GOTO BREAK CLEAR SET SHOW".split()

@@ -2,8 +2,7 @@
 
 import re
 
-from tests.model.pieces import is_blank, lines_of, words_of
-from tests.model.texts import Fault
+from tests.model.texts import Fault, is_blank, lines_of, words_of
 from tests.model.units import EMPTY, KINDS, MOST, no_units
 from tests.model.words import code_of, joined
 

@@ -13,27 +13,17 @@ ADDRESSES = [0, 0, 1, 2, 100, 3998, 3999, 3999, 4000, 4000, 4001, 4094, 4095, 40
 BYTES = (0, 0, 1, 9, 10, 19, 20, 29, 30, 39, 40, 62, 63)
 
 
-def either(r, *ways):
-    """What one of several functions gives; each is after its weight."""
-    pairs = zip(ways[::2], ways[1::2])
-    return r.choice([way for weight, way in pairs for _ in range(weight)])()
-
-
 def signed(r, magnitude):
     return (r.choice("+-"), magnitude)
 
 
 def any_word(r):
     """A word: an edge, a small one, one of digits, one of telling bytes, or any."""
-    of_bytes = lambda byte: joined(r.choice("+-"), [byte() for _ in range(5)])
-    return either(
-        r,
-        *(3, lambda: signed(r, r.choice(EDGES))),
-        *(2, lambda: signed(r, r.randrange(200))),
-        *(1, lambda: of_bytes(lambda: r.randrange(30, 40))),
-        *(2, lambda: of_bytes(lambda: r.choice(BYTES))),
-        *(2, lambda: signed(r, r.randrange(FULL))),
-    )
+    some = r.choice((BYTES, BYTES, range(30, 40)))
+    five = joined(r.choice("+-"), [r.choice(some) for _ in range(5)])
+    edge, small = signed(r, r.choice(EDGES)), signed(r, r.randrange(200))
+    words = edge, edge, edge, small, small, five, five, five, signed(r, r.randrange(FULL))
+    return r.choice(words)
 
 
 def near(r, word):
@@ -211,9 +201,13 @@ def one(s, pair=None):
     s.loc = r.choice((0, 0, 0, 0, 1, 5, 2000, 3998, 3999, 3999, r.randrange(4000)))
     s.say("set", "loc", s.loc)
     state(s)
-    ways = (1, lambda: on_pair(s, (r.randrange(64), r.randrange(64))), 2, lambda: on_move(s))
-    ways += (8, lambda: on_memory(s, r.choice(MEMORY)), 9, lambda: on_rows(s, r.choice(ROWS)))
-    places = on_pair(s, pair) if pair else either(r, *ways)
+    kind = r.randrange(20)
+    if pair or kind == 0:
+        places = on_pair(s, pair or (r.randrange(64), r.randrange(64)))
+    elif kind < 3:
+        places = on_move(s)
+    else:
+        places = on_memory(s, r.choice(MEMORY)) if kind < 11 else on_rows(s, r.choice(ROWS))
     s.say("step", *[] if r.randrange(5) else [r.choice((1, 1, 2, 3))])
     s.look(*places)
 

@@ -35,9 +35,6 @@ def is_symbol(run):
     return 0 < len(run) <= SYMBOL and not run.isdigit() and not is_local(run, (b"H", b"B", b"F"))
 
 
-# Atoms and expressions
-
-
 def atom(text, at, names, here):
     if text[at:at + 1] == b"*":
         return here, at + 1
@@ -110,9 +107,6 @@ def at_end(text, at):
         raise Fault("A5")
 
 
-# W-values
-
-
 def w_value(text, names, here):
     word, at = ZERO, -1
     while at < 0 or text[at:at + 1] == b",":
@@ -126,9 +120,6 @@ def w_value(text, names, here):
         word = put_field(word, code, value)
     at_end(text, at)
     return word
-
-
-# The ADDRESS of an instruction
 
 
 def a_part(text, names, here):

@@ -1,18 +1,16 @@
-"""What was altered, when and by what: watches in both directions, traces and counts.
+"""The source beside the machine, and what was altered, when and by what: watches in both
+directions, traces and counts.
 
 All of it is told from worlds made again from the loaded machine, and from what two of them differ in."""
 
+from tests.model.assembler import assemble
 from tests.model.command_words import condition, conditions_in_range, one_condition
 from tests.model.lines import text_of
-from tests.model.listing import source_of, source_text
 from tests.model.world import do, replay
 from tests.model.operations import FIRST_BYTE, NAMES
 from tests.model.texts import Fault
 from tests.model.transfers import conflicts
 from tests.model.words import written
-
-
-# What differs between two worlds
 
 
 def on_off(flag):
@@ -54,9 +52,6 @@ def unit_item(n, v, w):
     return item + "".join(" %s %d -> %d" % (name, *pair) for name, pair in pairs)
 
 
-# One change, told in a line
-
-
 def change_text(change, before):
     match change:
         case ["step"]:
@@ -70,7 +65,7 @@ def change_text(change, before):
     return "set " + change[0]
 
 
-def told(n, change, before, after):
+def change_line(n, change, before, after):
     left_out = ("loc", "clock") if change[0] == "step" else ()
     items = [item for item in differences(before, after) if item[0] not in left_out]
     cells = [text for kind, text in items if kind == "cell"]
@@ -90,9 +85,6 @@ def moves(world, changes):
         after, _ = do(world, change)
         yield n, change, world, after
         world = after
-
-
-# Watches: what a command stops at
 
 
 def reached(cond, v, w, n):
@@ -120,7 +112,7 @@ def back_until(session, words):
     found = None
     for n, change, before, after in moves(session.loaded, session.changes):
         if reached(cond, after, before, n):
-            found = n, told(n, change, before, after)
+            found = n, change_line(n, change, before, after)
     if found is None:
         raise Fault("C6")
     return found[1], len(session.changes) - found[0] + 1
@@ -130,11 +122,8 @@ def forth_until(session, words):
     cond = conditions_in_range(condition(session, words))
     for k, change, before, after in moves(session.world, session.ahead):
         if reached(cond, before, after, len(session.changes) + k):
-            return told(len(session.changes) + k, change, before, after), k
+            return change_line(len(session.changes) + k, change, before, after), k
     raise Fault("C6")
-
-
-# What is shown
 
 
 def counts(session):
@@ -159,7 +148,7 @@ def last(session, number):
     if number < 1:
         raise Fault("C3")
     first = len(session.changes) - number
-    return "".join(told(*move) for move in moves(session.loaded, session.changes) if move[0] > first)
+    return "".join(change_line(*move) for move in moves(session.loaded, session.changes) if move[0] > first)
 
 
 def writes(session, words):
@@ -167,13 +156,13 @@ def writes(session, words):
     if cond[0][0] == "conflict":
         return clashing(session)
     past = moves(session.loaded, session.changes)
-    return "".join(told(n, *move) for n, *move in past if reached(cond, *move[1:], n))
+    return "".join(change_line(n, *move) for n, *move in past if reached(cond, *move[1:], n))
 
 
 def clashing(session):
     """The lines of the changes that conflict with a transfer under way, each with the cell and the transfer."""
     past = session.loaded, session.changes
-    pairs = ((told(*move)[:-1], found) for move, found in zip(moves(*past), conflicts(*past)) if found)
+    pairs = ((change_line(*move)[:-1], found) for move, found in zip(moves(*past), conflicts(*past)) if found)
     return "".join("%s  cell %04d, unit %d until %d\n" % (text, *found) for text, found in pairs)
 
 
@@ -183,3 +172,54 @@ def diff(session, n):
         raise Fault("C4")
     items = differences(replay(session.loaded, every[:n]), session.world)
     return "diff %d to %d\n" % (n, len(session.changes)) + "".join(text + "\n" for _, text in items)
+
+
+def listing(source):
+    """What is written for a source, and the status."""
+    try:
+        program = assemble(source)
+    except Fault as fault:
+        return ("line %d: %s\n" % (fault.line, fault.text())).encode(), 1
+    done = {}  # the left part of each line that has one
+    for at, word in program.equals.items():
+        done[at] = " " * 6 + written(word)
+    put_in = []
+    for entry, (place, word) in zip(program.entries, program.words):
+        left = "%04d  %s" % (place, written(word))
+        if entry.line:
+            done[entry.line] = left
+        else:
+            put_in.append(left.encode() + b" " * 9 + entry.text + b"\n")
+    lines = [b"%-22s  %5d  %s\n" % (done.get(at, "").encode(), at, text) for at, text in enumerate(program.lines[:-1], 1)]
+    last = b"%-22s  %5d  %s\n" % (b"%04d" % program.start, len(program.lines), program.lines[-1])
+    return b"".join(lines + put_in + [last, symbols_of(program).encode()]), 0
+
+
+def symbols_of(program):
+    """The table of symbols."""
+    pairs = program.symbols()
+    return "".join(["symbols %d\n" % len(pairs)] + ["%-10s  %s\n" % (name.decode(), written(word)) for name, word in pairs])
+
+
+def source_of(session, place):
+    """The last entry of the program at a place, with the word it made."""
+    found = None
+    for entry, (_, word) in zip(session.program.entries, session.program.words):
+        if entry.place == place:
+            found = entry, word
+    return found
+
+
+def source_text(session, place, found):
+    entry, word = found
+    mark = "*" if session.world.cell(place) != word else " "
+    text = session.program.lines[entry.line - 1] if entry.line else entry.text
+    return "%5s%s %s" % (entry.line or "", mark, text.decode("latin-1"))
+
+
+def code_line(session, place):
+    word, found = session.world.cell(place), source_of(session, place)
+    line = "%04d  %s  " % (place, written(word))
+    if found is None:
+        return line + text_of(word) + "\n"
+    return line + "%-17s  %s\n" % (text_of(word), source_text(session, place, found))

@@ -2,7 +2,7 @@
 
 from tests.model import history
 from tests.model.command_words import cells_between, digits_of, unit_in_range, w_value_in
-from tests.model.listing import code_line, symbols_of
+from tests.model.history import code_line, symbols_of
 from tests.model.operations import FIRST_BYTE, NAMES
 from tests.model.texts import Fault
 from tests.model.units import characters, is_empty, shown

@@ -10,14 +10,12 @@ import pytest
 
 from tests import rowfiles
 from tests.model import words as w
-from tests.model.answers import answer
 from tests.model.assembler import Program, assemble, first_pass
 from tests.model.bundle import debug, run, run_list
 from tests.model.commands import Session
 from tests.model.deck import read_deck
-from tests.model.lines import OPERATIONS, text_of
-from tests.model.transfers import conflicts
-from tests.model.undo_size import kept_by
+from tests.model.lines import OPERATIONS, answer, text_of
+from tests.model.transfers import conflicts, undo_values_of
 from tests.model.units import EMPTY, no_units
 from tests.model.world import World, do
 from tests.rows.faces import bytes_of
@@ -92,7 +90,7 @@ def kept(source, deck, script, wanted):
     session = Session(World(program.words, program.start, read_deck(unfolded(deck))), program.names)
     for line in unfolded(script).splitlines():
         session.command(line)
-    return kept_by(session.loaded, session.changes, do), int(wanted)
+    return undo_values_of(session.loaded, session.changes, do), int(wanted)
 
 
 def conflict(_, deck, source, changes, wanted):

@@ -13,7 +13,8 @@ from hypothesis import event, given, note
 from hypothesis import strategies as st
 
 from tests.drawing import drawn_anew
-from tests.model import bundle, draw, draw_asm, draw_limits, draw_units
+from tests.model import bundle, draw, draw_asm, draw_units
+from tests.model.draw_limits import LIMITS, limit
 from tests.model.operations import UNIT_OPERATIONS
 from tests.model.words import instruction
 
@@ -30,14 +31,6 @@ TOPICS = {
     "lines": Topic(draw.lines, "run", 1500),
     "history": Topic(draw.history, "run", 1500),
     "debug": Topic(draw_units.bundle, "debug", 1500),
-}
-# At a limit of size and past it: what makes the bundle of a number, and how many there are.
-LIMITS = {
-    "machine": (draw_limits.machine, 20),
-    "assembler": (draw_limits.assembler, 18),
-    "units": (draw_limits.units, 20),
-    "commands": (draw_limits.commands, 5),
-    "history": (draw_limits.history, 9),
 }
 
 
@@ -101,6 +94,7 @@ def test_random(name, runner, request):
     drawn()
 
 
-@pytest.mark.parametrize("name, which", [(name, which) for name, (_, count) in LIMITS.items() for which in range(count)])
+@pytest.mark.parametrize("name, which", [(it, at) for it in LIMITS for at in range(LIMITS[it])])
 def test_limits(name, which, runner):
-    same(runner, LIMITS[name][0](random.Random(which), which), "run")
+    """At a limit of size and past it."""
+    same(runner, limit(random.Random(which), name, which), "run")

@@ -17,7 +17,7 @@ def rows(name):
 
 # A text up to what stands for a name, a line or another fault.
 ROW = re.compile(r"^\| ([AMKCT]\d+) \| (.*?)(?:: NAME.*?|(?<=: )Mn text|N: Kn text|) \|", re.M)
-TEXTS = dict(ROW.findall(document("FAULTS.md")))
+TEXTS = dict(reversed(ROW.findall(document("FAULTS.md"))))  # the first row of each has its text
 
 
 class Fault(Exception):
@@ -27,6 +27,23 @@ class Fault(Exception):
         super().__init__(number)
         self.number, self.line, self.more = number, line, more
 
-    def told(self):
+    def text(self):
         """Both, with a blank between."""
         return self.number + " " + TEXTS[self.number] + self.more
+
+
+def lines_of(text):
+    """Pieces between line feeds; an empty last one doesn't count; one carriage return at the end of each is dropped."""
+    pieces = text.split(b"\n")
+    if pieces[-1] == b"":
+        pieces.pop()
+    return [piece[:-1] if piece.endswith(b"\r") else piece for piece in pieces]
+
+
+def words_of(line):
+    """What stands between blanks. A tab is a blank, and nothing else is."""
+    return [word for word in line.replace(b"\t", b" ").split(b" ") if word]
+
+
+def is_blank(line):
+    return not words_of(line)

@@ -41,9 +41,6 @@ def kind_of(f):
     return KINDS[f]
 
 
-# The transfers
-
-
 def check(kind, way):
     """Whether the unit does such a transfer, an input or an output, at all."""
     if not (kind.medium or getattr(kind, way)):
@@ -91,9 +88,6 @@ def control(kind, unit, m):
     return unit
 
 
-# Time
-
-
 def begun(clock, unit):
     """The clock after a transfer that was asked for at this one, and the unit as it is busy then."""
     clock = max(clock, unit.until) + 1
@@ -102,9 +96,6 @@ def begun(clock, unit):
 
 def is_busy(clock, unit):
     return clock < unit.until
-
-
-# What is shown
 
 
 def characters(words):

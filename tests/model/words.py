@@ -59,14 +59,11 @@ def instruction(word):
     return word[0], 64 * one + two, index, f, c
 
 
-# Fields
-
-
 def field_value(word, code):
     """The bytes of the field, moved to the right end of a zero word; the sign is + where the field leaves it out."""
     left, right = FIELDS[code]
-    kept = bytes_of(word)[max(left, 1) - 1:right]
-    return joined(word[0] if left == 0 else "+", kept)
+    field = bytes_of(word)[max(left, 1) - 1:right]
+    return joined(word[0] if left == 0 else "+", field)
 
 
 def put_field(word, code, value):
@@ -75,9 +72,6 @@ def put_field(word, code, value):
     before, five = max(left, 1) - 1, bytes_of(word)
     five[before:right] = bytes_of(value)[5 - (right - before) :]
     return joined(value[0] if left == 0 else word[0], five)
-
-
-# Arithmetic
 
 
 def add(a, v):
@@ -136,9 +130,6 @@ def compare(a, v, code):
     """L, E or G: the field of the first word against the same field of the second, as numbers."""
     first, second = number(field_value(a, code)), number(field_value(v, code))
     return "L" if first < second else "G" if first > second else "E"
-
-
-# Characters
 
 
 def char_of(code):

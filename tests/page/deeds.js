@@ -65,7 +65,9 @@ Object.assign(looks, {
     script.textContent = "window.ran = 2";
     document.body.append(box, script);
   },
-  jump: (hash) => { location.hash = hash; },
+  jump: (link) => { location.hash = link.split("#").pop(); },
+  isAt: (link) => location.href.endsWith(link.split("#").pop()),
+  isInHistory: () => history.state !== null,
   set: (name, value) => { window[name] = value; },
   kept: (name) => window[name],
   taken: (name) => { const found = window[name]; window[name] = []; return found; },

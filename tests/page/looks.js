@@ -57,7 +57,7 @@ const looks = {
     const shown = all(selector).filter((row) => row.getClientRects().length);
     return shown.length ? looks.reached(shown[shown.length - 1]) : "is not there";
   },
-  middles: (...parts) => parts.map((part) => place(`#bars svg ${part}`)).map(({ left, width }) => left + width / 2),
+  offCentre: (...parts) => { const [a, b] = parts.map((part) => place(`#bars svg ${part}`)); return Math.abs(a.left + a.width / 2 - b.left - b.width / 2); },
 
   // The whole page
   state() {
@@ -69,7 +69,6 @@ const looks = {
   log: () => all("#log p").map((p) => [p.textContent, p.nextElementSibling.textContent]),
   lessonNumber: (name) => all("#lessons option").find((option) => option.dataset.name === name).value,
   lesson: () => [byId("lessons").selectedOptions[0]].map((option) => [option.dataset.name, option.textContent])[0],
-  lessons: () => all("#lessons optgroup option").sort((a, b) => a.value - b.value).map((option) => option.textContent),
   chooseLesson: (number) => { byId("lessons").value = String(number); byId("lessons").dispatchEvent(new Event("change", { bubbles: true })); },
   bring(id) {
     const element = byId(id), box = element.closest("#picture > details"), part = element.closest("[data-of]");
@@ -105,11 +104,12 @@ const looks = {
   buttonRows: () => all("dialog[open] .row.end").map((row) => new Set([...row.querySelectorAll("button")].map((b) => Math.round(place(b).bottom))).size),
   label: (id) => byId(id).labels[0].textContent.trim(),
   labels: (...ids) => ids.map((id) => byId(byId(id).getAttribute("aria-labelledby")).textContent),
-  order() { // as the tab key goes, and as one reads: column by column
+  order() { // what the tab key does not go to as one reads: column by column
     const parts = ["notes", "source", "registers", "memory"].map(byId).filter((part) => part.offsetHeight > 0);
     const at = (part) => [Math.round(place(part).left / 100), place(part).top, place(part).left];
     const seen = [...parts].sort((a, b) => { const [p, q] = [at(a), at(b)]; return (Math.abs(p[1] - q[1]) < 4 ? p[2] - q[2] : 0) || p[0] - q[0] || p[1] - q[1]; });
-    return [[...parts].sort((a, b) => (a.compareDocumentPosition(b) & 4 ? -1 : 1)), seen].map((list) => list.map((part) => part.id));
+    const goes = [...parts].sort((a, b) => (a.compareDocumentPosition(b) & 4 ? -1 : 1));
+    return goes.filter((part, at) => part !== seen[at]).map((part) => part.id).join(" ");
   },
   stageIsLast: () => [one(".machine").compareDocumentPosition(byId("stage")) & 4, place("#stage").top >= place(".machine").bottom],
   helpBegins: () => [byId("help-box").scrollTop, document.activeElement.id],
@@ -129,6 +129,8 @@ const looks = {
     const turns = /[\u202a-\u202e\u2066-\u2069]/, fields = all("input, textarea").filter((field) => field.id !== "text");
     return [turns.test(document.body.outerHTML.replace(/ cm-text="[^"]*"/g, "")), fields.filter(({ value }) => turns.test(value)).map(({ id }) => id)];
   },
+  isSorted: (selector) => looks.texts(selector).map(Number).every((number, at, all) => at === 0 || all[at - 1] <= number),
+  stepsRead: () => new Set(window.told.filter((text) => text.startsWith("Did "))).size,
   rowsInView(...selectors) { // how many rows of each are seen
     const isSeen = (row) => {
       const { top, bottom, left } = place(row), there = bottom > top && document.elementFromPoint(left + 20, (top + bottom) / 2);
@@ -156,8 +158,8 @@ const looks = {
     point(word, 3, 5);
     return byId("listing").title;
   },
-  atFault: (row) => { editor().scrollTo(0, 0); row.firstChild.focus(); },
-  faultIsWhole: (row) => [row.firstChild.scrollWidth <= row.firstChild.clientWidth + 1, row.firstChild.textContent],
+  atFault: () => { editor().scrollTo(0, 0); byId("wrong-text").firstChild.focus(); },
+  faultIsWhole: () => [byId("wrong-text").firstChild].flatMap((e) => [e.scrollWidth <= e.clientWidth + 1, e.textContent]),
   room: () => Math.floor((editor().getScrollInfo().clientWidth - editor().getGutterElement().offsetWidth) / editor().defaultCharWidth()),
   apart: () => Math.max(...all(".line").map((row, at) => Math.abs(place(row).top - place(all("#listing .CodeMirror-line")[at]).top))),
   coloured(line) {
@@ -173,7 +175,8 @@ const looks = {
   },
   bow() {
     const [bow, from, to] = [".bow", ".left .line", ".at .line"].map(place);
-    return [bow.top - (to.top + to.bottom) / 2, bow.bottom - (from.top + from.bottom) / 2, bow.left >= to.left - 2 && bow.right < to.left + 20];
+    const isAt = (y, { top, bottom }) => Math.abs(y - (top + bottom) / 2) < 3;
+    return [isAt(bow.top, to), isAt(bow.bottom, from), bow.left >= to.left - 2 && bow.right < to.left + 20];
   },
   lineColour: (line) => getComputedStyle(all(".wrong .line").find((row) => Number(row.firstChild.textContent) === line)).color,
 
@@ -216,7 +219,7 @@ const looks = {
   arrows: () => all("#bars [data-arrow]").map((arrow) => [arrow.dataset.arrow, arrow.querySelector("text").getAttribute("x")]),
   barPlaces: () => all("#bars [data-cell]").map((bar) => [bar.dataset.cell.padStart(4, "0"), bar.querySelector(".ink, .soft").getAttribute("x")]),
   hollowBars: () => all("#bars .next").map((bar) => [Number(bar.parentNode.dataset.cell), bar.getAttribute("fill")]),
-  barTops: () => [numbers(one("#bars .axis"), "y1")[0], all("#bars [data-cell] rect:first-child").flatMap((bar) => numbers(bar, "y"))],
+  isBelowAxis: () => all("#bars [data-cell] rect:first-child").map((bar) => numbers(bar, "y")[0] >= numbers(one("#bars .axis"), "y1")[0]),
   stripSize: () => [one("#strip svg").viewBox.baseVal].flatMap(({ width, height }) => [width, height]),
   stripBoxes: () => all("#strip rect.bar").map((bar) => numbers(bar, "x", "y", "width", "height", "fill-opacity")),
   clickStrip: (column) => fire(one("#strip svg"), "click", { clientX: place("#strip svg").left + place("#strip svg").width * column / 60, clientY: place("#strip svg").top + 20 }),
@@ -231,7 +234,7 @@ const looks = {
     const [left, wide] = timeField();
     return timeBoxes().length > 0 && timeBoxes().every(([x, , width]) => x >= left - 0.1 && x + width <= left + wide + 0.2);
   },
-  mapOverSlider: () => ["left", "right"].map((side) => Math.abs(Math.round(place("#map .field")[side] - place("#slider")[side]))),
+  mapOverSlider: () => Math.max(...["left", "right"].map((side) => Math.abs(Math.round(place("#map .field")[side] - place("#slider")[side])))),
   drawMapAnew: () => { one("#map svg").remove(); one(".slide").style.height = "5rem"; },
   writes: () => all("#who-writes button").map((button) => [button.textContent, button.getAttribute("aria-current")]),
   writeIsInView: () => place("#who-writes [aria-current]").top >= place("#who-writes").top && place("#who-writes [aria-current]").bottom <= place("#who-writes").bottom,

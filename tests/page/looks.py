@@ -27,6 +27,11 @@ def sections(name):
 PROGRAMS = sections("programs.txt")
 
 
+def answer_of(lesson):
+    """The source that is the answer of a lesson's exercise."""
+    return (TOP / f"course/{lesson}/answer.mixal").read_text().partition("%")[0]
+
+
 class Looks:
     """What a person sees on the page; `js` asks the functions of looks.js and deeds.js."""
 
@@ -74,6 +79,31 @@ class Looks:
 
     def all(self, selector):
         return self.driver.find_elements(By.CSS_SELECTOR, selector)
+
+    def count(self, selector):
+        return len(self.all(selector))
+
+    def attribute(self, name, what):
+        return self.one(name).get_attribute(what)
+
+    def width(self, name):
+        return self.one(name).size["width"]
+
+    def enabled(self, name):
+        found = self.one(name)
+        return found.is_enabled() and found.get_attribute("aria-disabled") is None
+
+    def is_checked(self, name):
+        return self.one(name).is_selected()
+
+    def text_at(self, selector, at):
+        return self.all(selector)[at].text
+
+    def joined(self, selector):
+        return "\n".join(self.texts(selector))
+
+    def kinds(self, selector, attribute):
+        return sorted(set(self.js("given", selector, attribute)))
 
     def in_view(self, element, inside=None):
         """Whether all of it is seen, below the bar; in a box."""

@@ -9,10 +9,11 @@ from selenium.common.exceptions import NoAlertPresentException
 from selenium.webdriver.common.keys import Keys
 from selenium.webdriver.support.ui import Select
 
-from tests.page.looks import EXAMPLES, SECONDS, STAGE, Looks
+from tests.page.looks import EXAMPLES, SECONDS, STAGE
+from tests.page.words import Words
 
 
-class Page(Looks):
+class Page(Words):
     started = None  # the browser, where all pages have one
 
     def __init__(self, address, width=1280, height=900):
@@ -99,14 +100,17 @@ class Page(Looks):
         self.click(button)
         return self.js("kept", "copied")
 
-    def tap(self, found):
+    def tap(self, found, at=0):
         """Clicks on an element, which is brought to the middle of the window."""
-        self.middle(found)
+        found = self.middle(found, at)
         found.click()
         return self.idle()
 
-    def middle(self, found):
+    def middle(self, found, at=0):
+        """Brings an element, or one of those of a selector, to the middle of the window."""
+        found = self.all(found)[at] if isinstance(found, str) else found
         self.script("arguments[0].scrollIntoView({ block: 'center' })", found)
+        return found
 
     def tab(self, name):
         """Shows a part where the window is too narrow for all, or one of those on the stage."""
@@ -119,13 +123,14 @@ class Page(Looks):
             tab.click()
         return self
 
-    def press_button(self, button):
-        """Presses a button, wherever it stands."""
+    def press_button(self, button, at=0):
+        """Presses a button, or one of those of a selector, wherever it is."""
+        button = self.all(button)[at] if isinstance(button, str) else button
         self.script("arguments[0].click()", button)
         return self.idle()
 
     def breakpoint(self, line):
-        return self.press_button(self.all("#listing .line button")[line - 1])
+        return self.press_button("#listing .line button", line - 1)
 
     def type(self, name, text):
         """Types a text into a field in place of what is there, and Enter."""
@@ -208,9 +213,9 @@ class Page(Looks):
         assert calls[0] == calls[1]
 
     def open_file(self, data):
-        """Opens a file of these bytes."""
+        """Opens a file of these bytes, or of a text."""
         path = pathlib.Path(self.folder.name) / "opened"
-        path.write_bytes(data)
+        path.write_bytes(data.encode() if isinstance(data, str) else data)
         self.js("keepReading")
         self.one("file").send_keys(str(path))
         self.leave()
@@ -226,5 +231,6 @@ class Page(Looks):
 
     def link_of(self, bundle):
         press = zlib.compressobj(9, zlib.DEFLATED, -15)
+        bundle = bundle.encode() if isinstance(bundle, str) else bundle
         packed = press.compress(bundle) + press.flush()
         return f"{self.address}#mix={base64.urlsafe_b64encode(packed).decode().rstrip('=')}"

@@ -31,7 +31,7 @@ function drawn(below) {
 const some = (most, make) => Array.from({ length: drawn(most + 1) }, make);
 
 // What the tables say of operations, of each with its register. They are compared with the
-// program by tests/tables.
+// program by tests/test_tables.py.
 takeTables(read("docs/operations.tsv"), read("docs/characters.tsv"));
 const known = [...OPERATIONS.values()].filter(({ name }) => ["ST6", "SRC", "J5NP"].includes(name)).map(({ name, code, f, register }) => [name, code, f, register]);
 row("operations: a register, and an F that names it", [OPERATIONS.size, PSEUDO.size, CHARACTERS.length, known], [144, 5, 56, [["SRC", 6, 5, ""], ["ST6", 30, null, "rI6"], ["J5NP", 45, 5, "rI5"]]]);

@@ -2,7 +2,7 @@
 import re
 import xml.etree.ElementTree as tree
 
-from tests.page.looks import PROGRAMS, TOP
+from tests.page.looks import TOP
 
 SVG = "{http://www.w3.org/2000/svg}"
 SORT = (TOP / "course/50_insertion/lesson.mixal").read_text()
@@ -109,66 +109,3 @@ def test_strip(page):
     assert [float(size) for size in root.get("viewBox").split()] == [0, 0, width, high]
     page.tab("bars").until(lambda: page.js("bars")[0][1])
     assert [int(told) for _, told, _, _ in page.js("bars")] == columns[20]
-
-
-def test_fields(page):
-    """By number, characters or a field; below the line what is negative; what is no range, no field, or too long."""
-    page.program(PROGRAMS["fields"])
-    assert not page.js("isOpen", "bars-box")
-    page.tab("bars").between("bars", "TABLE", "TABLE+4")
-    word = [64**4 + 2 * 64**2 + 65, -7, 8 * 64**4 + 5 * 64**3 + 13 * 64**2 + 13 * 64 + 16, 3 * 64**4, 0]
-    page.until(lambda: len(page.js("bars")) == 5)
-
-    def told():
-        return [told for _, told, _, _ in page.js("bars")]
-
-    assert told() == [str(number) for number in word], "by number"
-    page.choose("bars-by", "characters")
-    assert told()[2] == "HELLO", "by characters"
-    page.choose("bars-by", "field")
-    for field, wanted in (("2:3", [2, 0, 5 * 64 + 13, 0, 0]), ("4:5", [65, 7, 13 * 64 + 16, 0, 0]), ("0:1", [1, 0, 8, 3, 0])):
-        page.put("bars-field", field)
-        assert [abs(int(told)) for told in told()] == wanted, field
-    before = told()
-    for wrong in ("3:2", "6:6", "x"):
-        page.put("bars-field", wrong)
-        assert (page.one("bars-field").get_attribute("aria-invalid"), told()) == ("true", before), wrong
-    page.choose("bars-by", "number").click("step", "step")
-    assert dict(page.js("arrows")) == {"rI2": dict(page.js("barPlaces"))["0002"]}, "an arrow"
-    page.click(*["step"] * 3)
-    assert (page.js("hollowBars"), "4: 0 (will be -9)" in page.js("said", "bars")[1]) == ([[4, "none"]], True)
-    page.click("step")
-    line, tops = page.js("barTops")
-    assert ([top >= line for top in tops], told()[4]) == ([False, True, False, False, True], "-9")
-    assert "4: -9 (written, was 0)." in page.js("said", "bars")[1], "what it was, as a text"
-    for start, end, said in (("TABLE", "NOSUCH", "“NOSUCH” has no value"), ("9", "4", "the range ends at 4"), ("0", "4000", "cells are 0 to 3999")):
-        page.between("bars", start, end)
-        assert said in page.text("bars-fault") and len(page.js("bars")) == 5, (start, end)
-    page.put("bars-to", "999").put("bars-from", "0")
-    assert (len(page.js("bars")), page.text("bars-more")) == (120, "These are the first 120 of 1,000 cells.")
-
-
-def test_bars_kept(page):
-    """The picture as a file and as a text; kept in what is saved and shared; no call of the engine of its own."""
-    page.lesson("50_insertion")
-    page.calls_as_often_with("bars")
-    page.click("run").choose("bars-by", "field").put("bars-field", "4:5")
-    copied = page.copied("bars-copy")
-    assert page.told() == "The picture, as SVG, is copied."
-    page.do("scriptless").click("bars-copy")
-    assert page.told() == "This browser does not let the page copy."
-    page.do("keepSaved").click("bars-save").until(lambda: page.js("kept", "savedText"))
-    assert (page.js("kept", "savedName"), page.js("kept", "savedText")) == ("bars.svg", copied)
-    root = tree.fromstring(copied)
-    texts = [element.text for element in root.iter(f"{SVG}text")]
-    assert texts[:2 * len(KEYS):2] == [str(key) for key in sorted(KEYS)], "the file has the keys"
-    title = f"Cells KEY+1 to KEY+N by field (4:5), after {page.text('total')} changes"
-    assert next(root.iter(f"{SVG}title")).text == title and "class=" not in copied and "var(" not in copied
-    shown, saved = page.js("bars"), page.save()
-    assert b"\n* bars: KEY+1 KEY+N 4:5\n" in saved, saved[-300:]
-    page.lesson(0)
-    assert not page.js("isOpen", "bars-box")
-    page.follow(page.link_of(saved))
-    assert page.js("bars") == shown
-    page.tap(page.all("#bars [data-cell='1003'] rect")[0])
-    assert page.text("who-title") == "Who wrote cell 1003?"

@@ -10,11 +10,8 @@ import tempfile
 
 import pytest
 import variants
-from selenium.webdriver.common.keys import Keys
 
 from tests.page.looks import TOP
-
-SHOWN = [f"check-{name}" for name in ("told", "what", "wanted", "found", "end")]
 
 # Of each reason of grade/case what the page says: first, of what the program has, and of its end.
 FORMS = (
@@ -58,14 +55,6 @@ def exercises():
     return found
 
 
-def checked(page):
-    """What the page says of the program; nothing of a first difference where there is none."""
-    page.click("check-run")
-    told = [*map(page.text, SHOWN)]
-    rows = told[2:4] if page.is_seen("check-rows") else []
-    return [told[0], *([told[1], *rows, told[4]] if page.is_seen("check-first") else [])]
-
-
 def told_of(count, right):
     return f"{right} of {count} case{'s' * (count > 1)} {'is' if right == 1 else 'are'} right"
 
@@ -76,7 +65,7 @@ def test_answers(page, names):
     for name in names:
         cases, answer, _ = exercises()[name]
         page.lesson(name).put("text", answer)
-        assert checked(page) == [told_of(len(cases), len(cases))], name
+        assert page.check() == [told_of(len(cases), len(cases))], name
 
 
 @pytest.mark.parametrize("name", GRADED)
@@ -86,7 +75,7 @@ def test_graded(page, native, name):
     page.lesson(name)
     for new, text in wrong.items():
         reasons = [reason_of(native, text, case) for case in cases]
-        told = checked(page.put("text", text))
+        told = page.put("text", text).check()
         assert told[0] == told_of(len(reasons), reasons.count("")), new
         first = next((number for number, reason in enumerate(reasons, 1) if reason), 0)
         assert not first or told[1].startswith(f"Case {first}") and is_same(told[1:], reasons[first - 1]), new
@@ -123,71 +112,3 @@ def is_same(told, reason):
             held = wanted[1] if "row" in wanted[0] else worded(wanted[1])
             return wanted[0] in first and held in found.replace("#", "?") and wanted[2] in end
     return False
-
-
-def own(name):
-    """The cases of an exercise, and its answer as the lesson has it."""
-    return exercises()[name].cases, (TOP / "course" / name / "answer.mixal").read_text().partition("%")[0]
-
-
-def test_shown(page, native):
-    """By hand: an exchange too few, no end, a refusal, a conflict; the shown run stays."""
-    cases, answer = own("04_reversal")
-    table = re.findall(r"CON +(\d+)", cases[0]["data"])
-    page.lesson("04_reversal")
-    assert all(line in page.text("keeps-text") for line in cases[0]["data"].splitlines()) and "is reversed" in page.text("keeps-text")
-    assert (page.text("check-told"), page.is_seen("check-first")) == ("", False)
-    page.put("text", answer.replace("ENT1 N/2 ", "ENT1 N/2-1")).click("run")
-    before = page.log(), page.state()
-    told = ["0 of 2 cases are right", "Case 1: cell 1000 is not what is wanted.", table[7], table[6], "The run ended by HLT after 26 steps, clock 47 u."]
-    assert checked(page) == told, "an exchange too few"
-    assert (page.log(), page.state()) == before, "the session is as it was"
-    page.put("text", answer.replace("HLT  0", "JMP  *"))
-    assert (page.text("check-told"), *(page.is_seen(name) for name in ("check-first", "check-open"))) == ("", False, False)
-    assert checked(page) == ["0 of 2 cases are right", "Case 1 is not right.", "The run has not ended after 20,000 steps, the most of this case."]
-    page.put("text", answer.replace("        HLT", "LESS    EQU  N-8\n        ENTA 5/LESS\n        HLT").replace("DONE    HLT", "LESS    EQU  N-8\nDONE    ENTA 5/LESS\n        HLT"))
-    told = checked(page)
-    assert told[:2] == ["0 of 2 cases are right", "Case 1 is not right."], "refused"
-    assert told[2].startswith("With the data of the case it is refused: line ") and " A8 " in told[2]
-    page.put("text", answer.replace("HLT  0", "HLTT")).click("check-run")
-    assert (page.text("check-told"), page.told().endswith("Nothing was done.")) == ("", True)
-    page.lesson("15_farey")
-    cases, answer = own("15_farey")
-    page.put("text", answer.replace("JBUS *(PRINTER)", "NOP  *(PRINTER)"))
-    text, told = page.value("text"), checked(page)
-    assert told[:4] == ["1 of 2 cases is right", "Case 2: row 2 of unit 18 is not what is wanted.", "00001  /  00009", "nothing"]
-    assert is_same(told[1:], reason_of(native, text, cases[1])), "with which transfer"
-    for lesson in (0, None):
-        page.new() if lesson is None else page.lesson(lesson)
-        assert (page.is_seen("check"), page.one("keeps").get_attribute("hidden")) == (False, "true")
-
-
-def test_opened(page):
-    """A case is opened: its data and its cards; the rest and the breakpoints stay; Control Z."""
-    cases, answer = own("04_reversal")
-    page.lesson("04_reversal")
-    wrong = answer.replace("ENT1 N/2 ", "ENT1 N/2-1")
-    page.put("text", wrong)
-    page.caret(next(number for number, line in enumerate(wrong.splitlines(), 1) if line.startswith("SWAP")))
-    page.press(Keys.F9)
-    told = checked(page)
-    page.click("check-open")
-    text = page.value("text")
-    assert all(line in text.splitlines() for line in cases[0]["data"].splitlines())
-    assert text.partition("* end of data\n")[2] == wrong.partition("* end of data\n")[2], "the rest"
-    assert (page.told(), page.is_seen("check-open")) == ("The program has the data of this case, and begins anew.", False)
-    assert page.js("active") == "step"
-    assert [text.splitlines()[line - 1].split()[0] for line in page.points()] == ["SWAP"]
-    page.click(*["run"] * 4).say("show values TABLE+1 TABLE+1")
-    assert page.log()[-1][1][21:33].strip() == told[3], "what was told is there"
-    assert [*map(page.text, SHOWN)] == told, "it is told still"
-    assert checked(page) == told, "checked again"
-    page.caret(1).chord(Keys.CONTROL, "z")
-    assert page.value("text") == wrong
-    cases, answer = own("25_buffers")
-    page.lesson("25_buffers").put("text", answer.replace("ENN3 -16,3", "ENN3 0,3"))
-    page.click("check-run", "check-open")
-    head, *cards = cases[0]["deck"].splitlines()
-    assert (page.value("deck"), page.value("cards").splitlines()) == (f"{head}\n", cards)
-    page.size(400, 800).tab("lesson")
-    assert (page.is_seen("check-first"), page.sideways()) == (True, 0)

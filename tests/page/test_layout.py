@@ -16,8 +16,6 @@ LAST = (
     ("symbols", "#symbol-rows tr"),
 )
 SEEN = ("#listing .line", "#papers .paper > div", "#register-rows tr", "#cell-rows tr")
-LARGE = """MOST CON 63(1:1),63(2:2),63(3:3),63(4:4),63(5:5)
-START LDA MOST\n LDAN MOST\n STA 2000\n ENN1 4000\n ENT1 0\n STZ 2000\n HLT\n END START\n"""
 
 
 @pytest.mark.parametrize("width, height", SIZES)
@@ -48,18 +46,3 @@ def test_together(page):
         assert all(map(operator.ge, found, least)), (width, height, found)
         assert page.js("overflow")[1] == 0, (width, height)
         assert page.js("letter", "#listing .CodeMirror-line") >= min(19, 0.0099 * width), (width, height)
-
-
-def test_was(page):
-    """What a register or a cell was and what it will be is seen whole at each size, with the longest numbers."""
-    page.program(LARGE).tab("machine")
-    for moment in range(6):
-        page.click(*["step"][:moment])
-        for width, height in SIZES:
-            page.size(width, height).tab("machine")
-            page.frames()
-            found = page.js("was")
-            assert found and all(seen for _, seen in found), (width, height, moment)
-    page.size(1280, 900).choose("cells-which", "near")
-    page.do("scrollUp", "cells-box").size(1280, 720).frames()
-    assert page.js("reached", page.first("#cell-rows tr.altered, #cell-rows tr.here")) == ""

@@ -1,14 +1,12 @@
 """How the page looks, and that everyone can use it: a narrow window, keys alone, a name for every control, no request, and the pictures of it."""
-import itertools
 import re
 import shutil
 import subprocess
 import time
 
 import pytest
-from selenium.webdriver.common.keys import Keys
 
-from tests.page.looks import HERE, STAGE
+from tests.page.looks import HERE
 
 PAGE = HERE.parents[1] / "page"
 OUT = PAGE / "out"
@@ -35,62 +33,6 @@ def test_modules():
     ran = subprocess.run(["node", "--experimental-default-type=module", HERE / "pure.mjs"], capture_output=True, text=True)
     passed = int((re.search(r"^(\d+) passed, 0 failed$", ran.stdout, re.M) or [0, 0])[1])
     assert ran.returncode == 0 and passed > 1000, ran.stdout[-2000:] + ran.stderr[-2000:]
-
-
-def test_narrow(page):
-    """320 pixels: nothing stands out of the page to the side."""
-    page.size(320, 800)
-    for number in range(12):
-        page.lesson(number).do("openAll")
-        page.click("run").say("show code 0 20")
-        for tab in ("program", "machine", *STAGE, "lesson"):
-            page.tab(tab)
-            assert page.sideways() == 0, (number + 1, tab)
-    for name in ("help", "share"):
-        page.click(name)
-        page.until(lambda: page.all("dialog[open]"))  # the link is packed first
-        assert page.js("dialog") == [True] * 3, name
-        page.press(Keys.ESCAPE)
-    page.tab("machine").tap(page.first("#register-rows td"))
-    assert page.js("dialog")[1], "who"
-    page.press(Keys.ESCAPE)
-    assert page.js("lowButtons", "#time button, header button", 24) == [], "buttons are high enough for a finger"
-
-
-def test_keys(page, native):
-    """Without a mouse."""
-    page.lesson(0).tab("talk")
-    page.do("focus", ".skip")  # the first stop; behind the last one the tab key may leave the page
-    seen = []
-    while page.active() not in seen:
-        seen.append(page.active())
-        page.press(Keys.ESCAPE, Keys.TAB)  # Escape lets the tab key leave the source
-    for need in ("lessons", "open", "save", "share", "help", "step", "run", "text", "cells-which", "command", "anew"):
-        assert need in seen, need
-    for wanted in ("rA: who wrote it?", "Line 4, ", "overflow: who wrote it?"):
-        assert any(name.startswith(wanted) for name in seen), wanted
-    assert "rX: who wrote it?" not in seen and len(seen) < 45, "the registers are one stop"
-    page.do("blur").click_keys(Keys.F8, Keys.F8, Keys.F7)
-    for held, key in itertools.product((Keys.SHIFT, Keys.CONTROL), (Keys.F8, Keys.F7)):
-        page.chord(held, key)
-    wanted = ["step 1", "step 1", "back 1", "forth all", "run 1000000", "back all", "forth all", "back all"]
-    assert page.commands() == wanted
-    native.agrees(page)
-    page.caret(6).press(Keys.F9)
-    assert page.points() == [6]
-    page.do("focus", "#listing .line button").press(*[Keys.ARROW_DOWN] * 4, Keys.ENTER)
-    assert page.points() == [5, 6]
-    page.chord(Keys.CONTROL, Keys.ENTER).press("show clock", Keys.ENTER)
-    assert page.log()[-1] == ("show clock", "clock 0\n"), "a command"
-    page.press(Keys.ARROW_UP)
-    assert page.value("command") == "show clock"
-    page.do("focus", "#slider").click_keys(Keys.END, Keys.ARROW_LEFT)
-    assert page.commands()[-2:] == ["show clock", "goto 3"], "the slider, as one command"
-    page.do("focus", "#stage-tabs button").press(Keys.ARROW_RIGHT, Keys.ARROW_RIGHT, Keys.ENTER)
-    assert page.one("nodes-box").get_attribute("open") is not None, "a picture of the stage"
-    page.do("focus", "#register-rows button")
-    page.press(Keys.ARROW_DOWN, Keys.ARROW_UP).click_keys(Keys.ENTER, Keys.ENTER)
-    assert page.log()[-1][0] == "goto 2", "who wrote rA, and back there"
 
 
 @pytest.mark.chromium
@@ -188,29 +130,3 @@ def test_bounds(page, native, figure):
     page.put("script-lines", "run 100000\n" * 3).do("keepDid").click("script-all")
     said = [text for text in page.js("kept", "said") if text.startswith("Working … ")]
     assert said == [f"Working … {done} of 3 long commands done." for done in (1, 2, 3)]
-
-
-@pytest.mark.chromium
-def test_memory(page, native):
-    """More changes than the engine has memory for, and a stop: nothing is lost."""
-    page.lesson(0)
-    source = "LOOP INCA 1\n STA 1063\n ENT1 1000\n MOVE 1001(63)\n JMP LOOP\n END LOOP\n"  # each MOVE alters 63 cells
-    page.put("text", source + "%SCRIPT\n" + "run 1000000\n" * 100).click("step").breakpoint(2)
-
-    def stands(name):
-        assert page.value("text") == source, name
-        assert page.all("#listing .line button")[1].get_attribute("aria-pressed") == "true", name
-        assert page.log() == [("step 1", "ran 1 to 0001 clock 1: limit\n")], name
-        assert len(page.value("script-lines").splitlines()) == 100, name
-
-    page.brought("script-all").click()
-    page.until(lambda: page.is_seen("stop"), 60).click("stop")
-    assert page.told().startswith("Stopped.") and "fault" not in page.one("status").get_attribute("class")
-    assert page.one("did").size["width"] > 100, "told in view"
-    stands("stop")
-    page.click("script-all")
-    assert page.told().startswith("Not done: T1 out of memory.")
-    stands("memory")
-    page.click("back", "run", "run")
-    assert page.commands() == ["step 1", "back 1", "forth 1", "run 5"]
-    native.agrees(page)

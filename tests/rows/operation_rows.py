@@ -91,21 +91,6 @@ def decoded_with_each(program, fields, _):
     return " ".join(f"{f} {name}" for f, name in enumerate(found) if f == 0 or found[f - 1] != name)
 
 
-def all_lines(program):
-    """Each pair of C and F as it is shown."""
-    for first in range(0, 4096, 1024):
-        yield from program.codes(*((n % 64) * 64 + n // 64 for n in range(first, first + 1024)))[0]
-
-
-def count(program, *_):
-    """Those with the normal F are shown without it; HLT, NUM, CHAR and NOP alone."""
-    return str(sum(not line.startswith("CON") and "(" not in line for line in all_lines(program)))
-
-
-def count_of_lines(program, *_):
-    return str(sum(not line.startswith("CON") for line in all_lines(program)))
-
-
 def register_of(program, fields, _):
     line = program.replies(f" {fields[0]} 1\n CON 5\n END 0\n".encode(), ["trace"])[0]
     return re.search(r"u  (\w+) ", line)[1]
@@ -137,5 +122,5 @@ def line(program, fields, _):
 
 
 KINDS = {"operation " + name: function for name, function in {
-    "named": named, "time": time, "decoded": decoded, "decoded with each F": decoded_with_each, "count": count, "register of": register_of, "register": register,
-    "register number": register_number, "line": line, "count of lines": count_of_lines}.items()}
+    "named": named, "time": time, "decoded": decoded, "decoded with each F": decoded_with_each, "register of": register_of, "register": register,
+    "register number": register_number, "line": line}.items()}

@@ -44,13 +44,6 @@ def failed_read(program, fields, _):
     return f"failed, failures {gave.count(-1)}" if failed and len(gave) == int(fields[2]) else shown(text[:sum(gave)])
 
 
-def read_without_end(program, fields, _):
-    """A source of so many bytes, with an end, since a listing shows it."""
-    source = b"*" + b"x" * (int(fields[0]) - 1)
-    line = program.listing(source + b"\n END").split("\n")[0][31:]
-    return f"{len(line)}, each as it should be: {str(set(line[1:]) == {'x'}).lower()}"
-
-
 # Commands whose replies have so many bytes.
 REPLIES = {3: ["set over off"], 10: ["show changes"], 11: ["show clock", "", "set over off"]}
 
@@ -70,22 +63,6 @@ def write(program, fields, _):
     gave, output, failed = written(program, REPLIES[len(whole)], write_most=size, write_fails=call)
     is_so = all(it <= int(size) for it in gave) and failed == (-1 in gave)
     return ("failed, " if failed else "written, " * len(texts)) + f"[{whole[:len(output)]}], failures {gave.count(-1)}" if is_so else f"{gave}"
-
-
-def counted_slice(program, fields, _):
-    gave, failed = read(program, bytes_of(fields[0]), read_most=fields[1])
-    return f"[{fields[0][:gave[0]]}], failures {gave[:0].count(-1)}, then {gave[:1].count(-1)}" if not failed else "failed"
-
-
-def counted_vector(program, fields, _):
-    gave, output, failed = written(program, REPLIES[len(fields[0])])
-    return f"{gave[0]} [{fields[0][:len(output)]}], failures {gave.count(-1)}" if len(gave) == 1 and not failed else f"{gave}"
-
-
-def counted_room(program, fields, _):
-    """A room of two bytes takes two, and then fails."""
-    gave, _, failed = written(program, REPLIES[3], write_most=2, write_fails=2)
-    return f"{gave[0]}, {'failed' if gave[1] == -1 and failed else 'written'}, failures {gave.count(-1)}"
 
 
 ERRNO = {"interrupted": 4, "would block": 11}
@@ -124,5 +101,4 @@ def device_write(program, fields, _):
 
 
 KINDS = {"assembler listing": listing, "assembler failed listing": failed_listing, "stream read up to": read_up_to, "stream failed read": failed_read,
-         "stream read without end": read_without_end, "stream write": write, "stream counted slice": counted_slice, "stream counted vector": counted_vector,
-         "stream counted room": counted_room, "stream each call": each_call, "stream device read": device_read, "stream device write": device_write}
+         "stream write": write, "stream each call": each_call, "stream device read": device_read, "stream device write": device_write}

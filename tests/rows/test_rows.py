@@ -9,10 +9,10 @@ import pathlib
 import pytest
 
 from tests.rowfiles import params
-from tests.rows import decks, expression_rows, line_rows, mixal, operation_rows, sources, steps, stream_rows, tool, word_rows
+from tests.rows import mixal, operation_rows, sources, steps, stream_rows, tool, word_rows
 from tests.rows.faces import Program
 
-PARTS = (line_rows, word_rows, operation_rows, mixal, expression_rows, sources, stream_rows, steps, decks, tool)
+PARTS = (word_rows, operation_rows, mixal, sources, stream_rows, steps, tool)
 KINDS = {kind: answer for part in PARTS for kind, answer in part.KINDS.items()}
 
 

@@ -13,9 +13,6 @@ def escaped(text):
     return '"' + "".join(names.get(one) or (one if " " <= one else f"\\u{{{ord(one):x}}}") for one in text) + '"'
 
 
-# Sessions
-
-
 def session(program, source, script):
     """The replies of a script, and where the machine is then, what rA holds, and how many changes are done and ahead."""
     lines = program.replies(source, [*script, "show changes", "show values", "show regs", "forth all"])
@@ -122,9 +119,6 @@ def ended(errors):
             why = "used up" if found[2] == "steps used up" else f"faulted {found[2]}"
             end = f"{why} at {int(found[3])}, clock {found[4]}, {line_or_none(found[1])}"
     return end, first
-
-
-# Plans
 
 
 def words_of(line):

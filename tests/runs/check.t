@@ -10,6 +10,7 @@ A check of sources: all faults of each, in their order. Nothing is run, and noth
   bad.mixal:1:3: error: A2 no such operation: JUMP
   X JUMP 3
     ^^^^
+  help: perhaps JMP is meant
   bad.mixal:3:7: error: A9 address beyond two bytes: it is -4095 to 4095
    ENTA 4096
         ^^^^
@@ -22,6 +23,7 @@ The name - is standard input.
   bad.mixal:1:3: error: A2 no such operation: JUMP
   X JUMP 3
     ^^^^
+  help: perhaps JMP is meant
   bad.mixal:3:7: error: A9 address beyond two bytes: it is -4095 to 4095
    ENTA 4096
         ^^^^
@@ -30,7 +32,7 @@ The name - is standard input.
 An option may stand between the sources.
 
   $ mixrev check good.mixal --json bad.mixal </dev/null
-  {"file":"bad.mixal","line":1,"column":3,"endColumn":7,"severity":"error","code":"A2","text":"no such operation: JUMP"}
+  {"file":"bad.mixal","line":1,"column":3,"endColumn":7,"severity":"error","code":"A2","text":"no such operation: JUMP","help":"perhaps JMP is meant"}
   {"file":"bad.mixal","line":3,"column":7,"endColumn":11,"severity":"error","code":"A9","text":"address beyond two bytes: it is -4095 to 4095"}
   [1]
 
@@ -54,4 +56,4 @@ A source that is too long, and more of them than may be open at once.
   [1]
 
   $ (ulimit -n 20; mixrev check $(printf 'good.mixal %.0s' $(seq 100)) bad.mixal </dev/null) | wc -l
-  6
+  7

@@ -140,6 +140,7 @@ A talk about a source that is refused.
   stderr: a.mixal:1:2: error: A2 no such operation: JUMP
   stderr:  JUMP 1
   stderr:  ^^^^
+  stderr: help: perhaps JMP is meant
   [1]
 
 What a program prints, up to its halt.
@@ -369,12 +370,12 @@ No such option.
 
 The version, and the toolchain.
   $ mixrev --version
-  mixrev 0.1.0
+  mixrev 0.2.0
   toolchain Rattle, logic dac8208d650f15bf
 
 The version alone.
   $ mixrev -V
-  mixrev 0.1.0
+  mixrev 0.2.0
 
 The version is that of the program alone.
   $ mixrev run --version | grep error:

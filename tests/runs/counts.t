@@ -132,4 +132,5 @@ A refused source has no table.
   stderr: bad.mixal:1:2: error: A2 no such operation: JUMP
   stderr:  JUMP 0
   stderr:  ^^^^
+  stderr: help: perhaps JMP is meant
   [1]

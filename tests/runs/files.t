@@ -100,6 +100,7 @@ It may be a socket, as the programs that start others give it.
   -:1:2: error: A2 no such operation: JUMP
    JUMP
    ^^^^
+  help: perhaps JMP is meant
   [1]
 
 A folder is no text, and what is closed cannot be read.

@@ -1,5 +1,5 @@
 
-What help says, to the letter: --help of each word of the command line, and help of each word of a session. tests/commands compares
+What help says, to the letter: --help of each word of the command line, and help of each word of a session. tests/test_commands.py compares
 what both say with docs/FORMATS.md.
 
   $ mixrev --help

@@ -101,6 +101,7 @@ After a refused source or deck the file is as it was; a name is asked for.
   stderr: -:1:2: error: A2 no such operation: JUMP
   stderr:  JUMP
   stderr:  ^^^^
+  stderr: help: perhaps JMP is meant
   [1]
   $ printf 'X\n' | mixrev run halt.mixal --devices - --keep old
   stderr: mixrev: T5 deck refused at line 1: K1 bad header

@@ -165,7 +165,7 @@ LOC of the second line.
 ADDRESS.
   $ printf ' ENTA 2F+1\n END\n' >f
   $ mixrev run f
-  stderr: f:1:7: error: A7 undefined symbol: a symbol that no line before defines can only be the whole A-part of an instruction
+  stderr: f:1:7: error: A7 undefined symbol: 2F can only be the whole A-part of an instruction
   stderr:  ENTA 2F+1
   stderr:       ^^
   [1]
@@ -285,6 +285,7 @@ All faults.
   stderr: f:1:2: error: A2 no such operation: JUMP
   stderr:  JUMP
   stderr:  ^^^^
+  stderr: help: perhaps JMP is meant
   stderr: f:2:8: error: A9 address beyond two bytes: it is -4095 to 4095
   stderr: A ENTA 4096
   stderr:        ^^^^

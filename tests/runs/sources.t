@@ -142,7 +142,7 @@ Signs of word processors, and bytes that MIX does not have.
   $ said ' ENTA 5!\n END 0\n'
   1:8: error: A1 bad byte: !
   $ said ' ENTA \0335\n END 0\n'
-  1:7: error: A1 bad byte: ?
+  1:7: error: A1 bad byte: U+001B, which cannot be seen: leave it out
   $ said '\377\376 \000H\000L\000T\000\n\000 \000E\000N\000D\000' | head -n 1
   1:1: error: A1 bad byte: a byte of UTF-16: save the source as UTF-8
   $ said '\376\377\000 \000E\000N\000D' | head -n 1
@@ -238,7 +238,7 @@ used first.
   $ said ' JMP 3F\n2H JMP 2F\n JMP 2F\n3H HLT\nX STA 2F,1(0:2)\n JMP 3F\n END 0\n'
   2:8: error: A14 no such local symbol: 2F: for a dB the LOC of a line before is dH, and for a dF that of a line after it
   $ said ' JMP 2F+1\n2H HLT\n END 0\n'
-  1:6: error: A7 undefined symbol: a symbol that no line before defines can only be the whole A-part of an instruction
+  1:6: error: A7 undefined symbol: 2F can only be the whole A-part of an instruction
   $ said ' ENTA 5\n JMP LOPP\nLOOP HLT\n END 0\n'
   2:6: warning: LOPP is defined nowhere: END makes a cell of 0 for it [undefined-symbol]
   $ said 'LOOP DEC1 1\n J1P LOPP\n HLT\n JMP LOPP\n END 0\n'
@@ -373,3 +373,42 @@ Several faults: a line that is refused keeps its label and its cell, and hides n
        20 1:6: error: A7 undefined symbol: X is defined nowhere
   $ said "$(printf ' CON X%d\\n' $(seq 101)) END 0\n" | tail -n 1
   100:6: error: A7 undefined symbol: X100 is defined nowhere
+
+What cannot be seen is told by its number, and a symbol that has no value yet by its name.
+
+  $ said ' ENTA 5\342\200\213\n END 0\n'
+  1:8: error: A1 bad byte: U+200B, which cannot be seen: leave it out
+  $ said ' ENTA 5\302\255\n END 0\n'
+  1:8: error: A1 bad byte: U+00AD, which cannot be seen: leave it out
+  $ said ' ENTA 5\342\200\250\n END 0\n'
+  1:8: error: A1 bad byte: U+2028, which cannot be seen: leave it out
+  $ said ' ENTA\343\200\2005\n END 0\n'
+  1:6: error: A1 bad byte: U+3000: write a blank
+  $ said 'Q EQU Q\n END 0\n'
+  1:7: error: A7 undefined symbol: Q is defined by this line, and has no value before it
+  $ said ' INCX 0F+1\n END 0\n'
+  1:7: error: A7 undefined symbol: 0F can only be the whole A-part of an instruction
+
+What may be meant, below the mark, and in JSON.
+
+  $ helps() { printf "$1" | mixrev check - | grep '^help'; printf "$1" | mixrev check --json - | grep -o '"help":"[^"]*"'; }
+  $ helps ' LAD 5\n END 0\n'
+  help: perhaps LDA is meant
+  "help":"perhaps LDA is meant"
+  $ helps 'LAD  5\n END 0\n'
+  help: LAD is read as a label: perhaps LDA behind a blank is meant
+  "help":"LAD is read as a label: perhaps LDA behind a blank is meant"
+  $ helps ' LOOP LDA 5\n END 0\n'
+  help: a label begins in column 1
+  "help":"a label begins in column 1"
+  $ helps ' LDA 5, 2\n END 0\n'
+  help: a blank ends the address: none may come after a comma
+  "help":"a blank ends the address: none may come after a comma"
+  $ helps ' JMP LOPP\nLOOP HLT\n END 0\n'
+  help: perhaps LOOP is meant
+  "help":"perhaps LOOP is meant"
+  $ helps ' IN 100(18)\n END 0\n'
+  help: unit 18 is the printer
+  "help":"unit 18 is the printer"
+  $ helps ' LDA 5,7\n END 0\n'
+  [1]

@@ -1,4 +1,4 @@
-"""Talks over a pipe, and the line editor of mixrev-debug."""
+"""Talks over a pipe, and the line editor."""
 import re
 import shutil
 import subprocess
@@ -47,17 +47,37 @@ def test_long_lines(ran):
         assert (done.output, done.errors, done.status) == (output, errors, status)
 
 
+def installed(program, folder):
+    """The command mixrev, in a folder as it is installed in."""
+    (folder / "bin").mkdir()
+    (folder / "libexec/mixrev").mkdir(parents=True)
+    for name in ("mixrev", "package/mixrev-debug"):
+        shutil.copy(TOP / name, folder / "bin")
+    (folder / "libexec/mixrev/mixrev").symlink_to(program)
+    return str(folder / "bin/mixrev")
+
+
+def test_stopped(program, folder):
+    """Of a run that Ctrl-C stops a person is told how it says where it is."""
+    (folder / "loop.mixal").write_text(" JMP *\n END 0\n")
+    terminal = Terminal(installed(program, folder), "run", "loop.mixal", folder=folder)
+    time.sleep(0.5)
+    terminal.send("\x03")
+    terminal.expect("mixrev: stopped: with --steps 1000000 a run ends by itself, and says where\r\n")
+    terminal.expect(pexpect.EOF)
+    assert terminal.wait() == 130
+
+
 def test_line_editor(program, folder):
-    """mixrev-debug: Tab completes commands and symbols, Up brings a line back, Ctrl-C drops one, and the history is kept."""
+    """`mixrev debug` as it is installed: Tab completes commands and symbols, Up brings a line back,
+    Ctrl-C drops one, and the history is kept."""
     subprocess.run([TOP / "tests" / "install", "rlwrap"], check=True)
     if not shutil.which("rlwrap"):
-        pytest.skip("mixrev-debug, since rlwrap is not there")
+        pytest.skip("the line editor, since rlwrap is not there")
     home = folder / "home"
     home.mkdir()
     (home / "a.mixal").write_text(" ENTA 5\nTABLE STA TABLE+7\n HLT\n END 0\n")
-    shutil.copy(TOP / "package" / "mixrev-debug", folder)
-    (folder / "mixrev").symlink_to(program)
-    terminal = Terminal(str(folder / "mixrev-debug"), "a.mixal", folder=home)
+    terminal = Terminal(installed(program, folder), "debug", "a.mixal", folder=home)
     value = f'+ 00 00 00 00 02 {2:11}  "    B"\n'
     for line, reply in (("", GREETING + PROMPT), ("st\t 2\n", "ran 2 to 0002 clock 3: limit\n"), ("sh\t val\t tab\t+1\n", value), ("goto\x03", ""), ("\x1b[A\n", value),
                         ("ba\t al\t\n", "back 2 to 0000 clock 0\n"), ("q\t\n", "quit\n")):

@@ -8,6 +8,7 @@ import tempfile
 import termios
 
 import pytest
+from tests.terminal import test_talk
 from tests.terminal.talking import GREETING, PROMPT
 
 # a colour and a title of xterm; a sequence that begins with the byte 9B, alone and as a
@@ -24,10 +25,6 @@ NONE = [bytes.fromhex(code) for code in (*NONE.split(), "BF")]
 # surrogates.
 EDGES = "\u00a0\u07ff\u0800\ud7ff\ue000\uffff\U00010000\U0010ffff"
 STREAMS = ("stdin", "stdout", "stderr")
-# What `mixrev run` says of a halt whose program shows nothing, and a program that shows a row.
-NOTHING = "; nothing was printed: no OUT to units 17 to 20 was done"
-BLANKS = "; only blank rows were printed: the cells that OUT wrote are +0"
-PRINTS = ' OUT 4(18)\n HLT\n ORIG 4\n ALF "HULLO"\n END 0\n'
 
 
 def streams_of(program, folder, *words, typed=b"", terminals=STREAMS):
@@ -110,28 +107,15 @@ def test_names(program, folder):
     assert told.startswith(b"bad?[1m.mixal:1:2: error: A2")
 
 
-@pytest.mark.parametrize(
-    "source, words, said",
-    [
-        (" ENTA 5\n STA 9\n HLT\n END 0\n", (), f"halted at 0003 after 13 u{NOTHING}"),
-        (" OUT 100(0)\n HLT\n END 0\n", (), f"halted at 0002 after 11 u{NOTHING}"),
-        (" OUT 100(18)\n HLT\n END 0\n", (), f"halted at 0002 after 11 u{BLANKS}"),
-        (" IOC 0(18)\n HLT\n END 0\n", (), f"halted at 0002 after 11 u{BLANKS}"),
-        (PRINTS, (), "halted at 0002 after 11 u"),
-        (PRINTS, ("--unit", "19"), f"halted at 0002 after 11 u{NOTHING}"),
-        (PRINTS, ("--counts",), None),
-        (PRINTS, ("--writes", "A"), None),
-        (" JMP *\n END 0\n", ("--steps", "1"), "1: steps used up at 0000 clock 1"),
-    ],
-)
+@pytest.mark.parametrize("source, words, said", test_talk.typed("halt"))
 def test_halt(program, folder, source, words, said):
     (folder / "p.mixal").write_text(source)
-    line = "" if said is None else f"p.mixal:{'' if said[0] == '1' else ' '}{said}\n"
-    words = ("run", "p.mixal", *words)
+    line = said and f"p.mixal:{said}\n"
+    words = ("run", "p.mixal", *words.split())
     shown, piped = streams_of(program, folder, *words, typed=b"", terminals=("stderr",))
     assert (shown.decode(), set(piped)) == (line, {"stdout"})
     shown, piped = streams_of(program, folder, *words, typed=b"", terminals=("stdin", "stdout"))
-    assert piped["stderr"].decode() == (line if said and said[0] == "1" else "")
+    assert piped["stderr"].decode() == (line if said[:1] == "1" else "")
 
 
 def test_halt_before_conflicts(program, folder):
