@@ -162,17 +162,20 @@ export class Session {
   }
 
   // Where and why a run stops, with breakpoints at cells, and filters of exceptions; none of it is
-  // kept. `isFault` says that a fault is next; `met` is the number of a change that conflicts.
+  // kept. `isFault` says that a fault is next; `met` is the number of a change that conflicts. What
+  // is ahead may be dropped on the way to its end; then the engine does all again.
   async stop(way, { cells, filters }, from = this.done) {
     const breakpoints = cells.map((cell) => ({ instructionReference: String(6 * cell) }));
     const sets = [["setInstructionBreakpoints", { breakpoints }], ["setExceptionBreakpoints", { filters }]];
     const goes = [[way, { threadId: 1 }], ["exceptionInfo", { threadId: 1 }], WHERE];
     for (let [at, requests] = [from, [...sets, ...goes]]; ; [at, requests] = [this.at, goes]) {
       const answers = await this.ask(requests, at);
-      const [{ stopped: { reason } }, { success: isFault }, { body: { done } }] = answers.slice(-3);
+      const [{ stopped: { reason } }, { success: isFault }, { body: { done, ahead } }] = answers.slice(-3);
       this.at = done;
-      const met = reason === "exception" && !isFault ? done + (way === "continue" ? 0 : 1) : 0;
-      if (reason !== "pause" || way === "continue") return { done, reason, isFault, met };
+      if (this.ahead > 0 && ahead === 0) this.machine.holder = null;
+      const isBack = way === "reverseContinue";
+      const met = reason === "exception" && !isFault ? done + (isBack ? 1 : 0) : 0;
+      if (reason !== "pause" || !isBack) return { done, reason, isFault, met };
     }
   }
 

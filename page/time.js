@@ -103,10 +103,9 @@ export class Time {
     store.enqueue(async () => {
       if (button.disabled || button.hasAttribute("aria-disabled")) return;
       const { session, view } = store;
-      const { location, registers } = view.state;
-      const out = Number(registers.find(({ name }) => name === "J").number);
+      const out = Number(view.state.registers.find(({ name }) => name === "J").number);
       const filters = $("conflicts").checked ? ["conflict"] : [];
-      const points = { cells: listing.breakCells, filters, over: location + 1, out };
+      const points = { cells: listing.breakCells, filters, out };
       for await (const [command, met] of commandsOf(button.id, session, points)) await store.act([command], view, met);
     });
   }
@@ -137,16 +136,29 @@ export class Time {
 
 // The commands of a button, one by one, each perhaps with a change that conflicts at its end.
 // The engine says where one of the breakpoints at `cells` is met, or one of `filters`, and what is
-// kept are the steps. `over` is the cell behind the next instruction, `out` the one in rJ.
+// kept are the steps. `out` is the cell in rJ.
 async function* commandsOf(name, session, points) {
   const { done, ahead } = session;
   const forth = ahead > 0 ? "forth 1" : "step 1";
   const plain = { step: forth, beyond: forth, back: "back 1", "to-start": "back all", "to-end": "forth all" }[name];
   if (plain) yield [plain];
+  else if (name === "over") yield* overOf(session, points);
   else if (name !== "to-break") yield* runOf(session, { ...points, cells: points.cells.concat(points[name] ?? []) });
   else {
     const end = await session.stop("reverseContinue", points);
     yield [end.reason === "entry" ? "back all" : `back ${done - end.done}`, end.met];
+  }
+}
+
+// As many steps as the engine goes over, of which it does those again that were taken back.
+async function* overOf(session, points) {
+  const { done, ahead } = session;
+  const end = await session.stop("next", points);
+  const count = end.done - done + (end.isFault ? 1 : 0);
+  if (count <= ahead) yield [`forth ${count}`, end.met];
+  else {
+    if (ahead > 0) yield ["forth all"];
+    yield [count > 1 ? `run ${count - ahead}` : "step 1", end.met];
   }
 }
 
