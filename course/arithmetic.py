@@ -1,7 +1,7 @@
 """Facts of the lessons on numbers and squares: magic squares by their sums, saddle points by lists, long numbers and digits by Python's integers."""
 import random
 
-from counting import RUN, Lesson, times
+from counting import RUN, times
 
 WORD = 64**5
 
@@ -15,9 +15,6 @@ def magic(run):
         yield "the sums of rows, columns and diagonals", sums_of(rows), {n * (n * n + 1) // 2}
         yield "the number above the middle", rows[n // 2 - 1][n // 2], n * n
         yield from times(ran, N=n)
-        for other in (rows, [*rows[1:], rows[0]], [row[::-1] for row in rows]):
-            ran = run("answer.mixal", N=n, data=sum(other, []), script=["run 100000", "show values SUM SUM"])
-            yield "whether a square is magic", ran.numbers("show values SUM SUM"), [max(sums_of(other)) if len(sums_of(other)) == 1 else 0]
 
 
 def sums_of(rows):
@@ -50,9 +47,6 @@ def random_numbers(run):
         yield from times(ran, N=n)
     period = [x % 64 for x in generated(12345, 192)]
     yield "byte 5 comes back after 64 numbers, and each byte is among them", (period[:64] == period[64:128], len(set(period))), (True, 64)
-    for n in (1, 2, 10, 40):
-        ran = run("answer.mixal", N=n, script=["run 100000", "show values TABLE+1 TABLE+N"])
-        yield "a permutation", ran.numbers("show values TABLE+1 TABLE+N"), permuted(12345, n)
 
 
 def words_of(number, size):
@@ -71,8 +65,6 @@ def multiple_precision(run):
         carries = [sum(number % WORD**at for number in whole) >= WORD**at for at in range(n)]
         first = sum(word + carry >= WORD for word, carry in zip(u[::-1], carries))
         yield from times(ran, N=n, A=first, B=sum(carries[1:]) + (sum(whole) >= WORD**n) - first)
-        ran = run("answer.mixal", N=n, M=n, data={"u": u, "v": v}, script=["run 1000000", f"show values W+1 W+{2 * n}"])
-        yield "the product", ran.numbers(), words_of(whole[0] * whole[1], 2 * n)
 
 
 def digits_of(number, base):
@@ -86,9 +78,6 @@ def radix_conversion(run):
         ran = run(BASE=base, mend=set_number, script=[*RUN, "show values DIGIT+1 DIGIT+K"])
         yield f"{number} to the base {base}", ran.numbers("show values DIGIT+1 DIGIT+K"), [0] * (10 - len(digits)) + digits
         yield from times(ran, D=len(digits))
-        for given, wanted in ((digits, number), ([1, *digits], base ** len(digits) + number)):
-            ran = run("answer.mixal", K=len(given), BASE=base, data=given, script=["run 1000", "show values NUMBER NUMBER"])
-            yield f"what {given} is to the base {base}", ran.numbers("show values NUMBER NUMBER"), [wanted if wanted < WORD else -1]
 
 
 def saddle_points(rows):
@@ -121,15 +110,3 @@ def saddle_point(run):
         ran = run(data=sum(rows, []), script=[*RUN, "show values"], **size)
         yield f"a saddle point of {rows}", ran.register("I3"), (points or [0])[0]
         yield from times(ran, **letters(rows))
-        shows = ["show values COUNT COUNT", f"show values POINTS POINTS+{max(len(points), 1)}"]
-        ran = run("answer.mixal", data=sum(rows, []), script=["run 100000", *shows], **size)
-        yield f"all saddle points of {rows}", (ran.numbers(shows[0]), ran.numbers(shows[1])[1 : len(points) + 1]), ([len(points)], points)
-
-
-LESSONS = [
-    Lesson("19_magic_square", magic, ("INC2 1", "INC2 2")),
-    Lesson("80_random_numbers", random_numbers, ("ADD C", "SUB C")),
-    Lesson("81_multiple_precision", multiple_precision, ("ENTA 0,2", "ENTA 0")),
-    Lesson("82_radix_conversion", radix_conversion, ("SRAX 5", "SRAX 4")),
-    Lesson("14_saddle_point", saddle_point, ("JGE  1B", "JLE  1B")),
-]

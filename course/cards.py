@@ -4,7 +4,6 @@ import random
 import re
 import subprocess
 
-from counting import Lesson
 from machine import CHARACTERS
 
 LISTED = re.compile(r"^(\d{4})  \+((?: \d\d){5})")
@@ -54,10 +53,6 @@ def loader(run):
     yield "the cards that are punched", ran.rows(17), [card.rstrip() for card in copier]
     ran = run("copy.mixal", deck=["%UNIT 16", *ran.rows(17)], script=["run 10000", "show unit 17"])
     yield "the cards that the copy punches", ran.rows(17), [card.rstrip() for card in copier]
-    for size in (1, 6, 7, 8, 21, 40):
-        first, numbers = draw.randrange(100, 3900), [draw.randrange(1, 64**5) for _ in range(size)]
-        ran = run("answer.mixal", N=size, TO=first, data=numbers, script=["run 100000", "show unit 17"])
-        yield f"{size} words, punched", (ran.end, ran.rows(17)), ("halt", [card.rstrip() for card in cards_of(first, numbers)])
 
 
 RUN = "run 20000"
@@ -103,13 +98,3 @@ def hunt(run):
             yield f"{name}: its wrong result", ran.numbers(show), wrong
         ran = run(name, script=[RUN, show], mend=mended(changes))
         yield f"{name}, mended", (ran.end, ran.register("A") if show == "show values" else ran.numbers(show)), ("halt", right)
-    show = "show values SUM SUM"
-    for table in ([100, 200, 300, 400], [1, 2, 3, 64**5 - 7], [64**5 - 1, 0, 0, 0], [64**5 // 2] * 4, [0] * 4):
-        ran = run("answer.mixal", data=table, script=[RUN, show])
-        yield f"the sum of {table}", (ran.end, ran.numbers(show)), ("halt", [sum(table) if sum(table) < 64**5 else -1])
-
-
-LESSONS = [
-    Lesson("06_loader", loader, ("JBUS *(16)", "JRED *(16)")),
-    Lesson("16_hunt", hunt, ("ENTA 1", "ENTA 2")),
-]

@@ -52,7 +52,7 @@ class Counted:
                 raise NoColumns(f"{setting}: the source has not one line {name} EQU") from None
         bundle.script = script
         try:
-            self.ran = Outcome(bundle, replies(program, bundle))
+            self.ran = Outcome(bundle, list(replies(program, bundle)))
         except Refused as refusal:
             raise NoColumns(f"{setting}: {refusal}") from None
         if self.ran.end != "halt":

@@ -1,7 +1,6 @@
 """What a lesson's facts are made of; and the times in square brackets in the remarks of a program, against what `show counts` says."""
 import ast
 import operator
-import typing
 
 from machine import TIMES
 
@@ -73,14 +72,6 @@ def times(outcome, waiting=False, overwritten=(), **quantities):
         steps += count
     total = outcome.lines("show counts")[-1].split()
     yield "the total", total, [str(steps), str(time), "total"]
-
-
-class Lesson(typing.NamedTuple):
-    """A folder; the facts, each with what was found and what was wanted; and an instruction with the wrong one that the facts have to see."""
-
-    name: str
-    facts: typing.Callable
-    wrong: tuple
 
 
 RUN = ["run 1000000", "show counts"]

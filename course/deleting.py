@@ -2,7 +2,7 @@
 or not, cells that are taken, and a dictionary for the lazy way."""
 import random
 
-from counting import RUN, Lesson, measured, times
+from counting import RUN, measured, times
 
 
 def grown(keys):
@@ -143,9 +143,6 @@ def hash_deletion(run):
         first = table.index(gone) if there else gone % m
         rounds = {"R": int(there and first > gone % m or not there and (gone % m - count + 1) % m > gone % m), "S": int(there and first - len(cells) - 1 < 0)}
         yield from times(ran, D=1, E=1 - there, C=count, K=len(cells), V=moved, **rounds, **measured(ran, "TU"))
-    for m, orders in ((11, [31, 42, 53, -42, 53, 20, -99, -31, 64]), (7, [7, 14, 21, -7, 21, -21, 28]), (17, [*draw.sample(range(1, 60), 14), *(-k for k in range(1, 60, 3))])):
-        ran = run("answer.mixal", M=m, data=[*orders, 0], script=["run 100000", "show values TABLE TABLE+M-1"])
-        yield f"the table after {orders}, the lazy way", ran.numbers("show values TABLE TABLE+M-1"), lazily(orders, m)
 
 
 def lazily(orders, m):
@@ -158,9 +155,3 @@ def lazily(orders, m):
         elif order < 0 and -order in held:
             table[held.pop(-order)] = -1
     return table
-
-
-LESSONS = [
-    Lesson("63_tree_deletion", tree_deletion, ("ENT5 RIGHT,1", "ENT5 LEFT,1")),
-    Lesson("67_hash_deletion", hash_deletion, ("DEC3 0,4", "DEC3 1,4")),
-]

@@ -1,9 +1,6 @@
 """What the exercises of the course are made of: the numbers of a student, a case, and the files of grade/ that say it."""
 import hashlib
-import re
 import typing
-
-from running import COURSE
 
 
 class Draw:
@@ -76,20 +73,3 @@ class Case(typing.NamedTuple):
         else:
             found.update(wanted=self.rows or self.wanted, unit=(self.unit,), strict=("a program waits for its units",) if kind == "strict" else ())
         return {name: "".join(f"{line}\n" for line in lines) for name, lines in found.items() if lines or name == "wanted"}
-
-
-class Exercise(typing.NamedTuple):
-    """The folder of its lesson; the case that is made of a draw and a size; the sizes of the cases, of which the student sees the last but one;
-    instructions of its answer, each with a wrong one. With `put` false the data are what the student has to find, and are wrong if the first two are
-    exchanged."""
-
-    name: str
-    make: typing.Callable
-    sizes: tuple
-    wrong: tuple
-    put: bool = True
-
-    def paragraph(self, word):
-        """The paragraph of the lesson that begins with a word: `Exercise.` asks, and `Checked:` says what a program must keep and leave."""
-        lesson = (COURSE / self.name / "README.md").read_text()
-        return " ".join(re.search(rf"^\*\*{word}\*\* (.*?)\n\n", lesson, re.S | re.M)[1].split())

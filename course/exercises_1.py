@@ -5,7 +5,7 @@ from math import factorial, gcd, isqrt, lcm
 
 from arithmetic import saddle_points
 from cards import cards_of
-from exercise import Case, Exercise
+from exercise import Case
 from first_programs import eliminated, largest_sum
 from machine import CHARACTERS
 from permutations import fixed_numbers
@@ -186,29 +186,3 @@ def checked_sum(draw, n):
 def punched(draw, n):
     words, first = draw.numbers(n, 1, 64**5 - 1), draw.number(100, 3000)
     return Case({"N": n, "TO": first, "data": words}, [card.rstrip() for card in cards_of(first, words)], deck=["%UNIT 17 delay 200"], unit="17", strict=True)
-
-
-EXERCISES = [
-    Exercise("00_first_hour", second_numbers, (1, 2, 9, 40, 77), (("DEC1 2", "DEC1 1"), ("J1P LOOP", "J1NZ LOOP"), ("HLT", "NOP"))),
-    Exercise("01_euclid", multiple, (0, 1, 2, 3, 4, 5), (("MUL N", "MUL M"), ("SRAX 5", "SLAX 5"))),
-    Exercise("02_degrees", degrees, (0, 1, 2, 3, 4, 5, 6), (("JLE 1F", "JL 1F"), ("JGE 2F", "JMP 2F"), ("JLE 1F", "JMP 1F"))),
-    Exercise("03_fields", fields, (0, 1, 2), (("LDX DATE(2:2)", "LDX DATE(1:1)"),)),
-    Exercise("04_reversal", reversal, (1, 2, 3, 8, 31), (("J1P SWAP", "J1NN SWAP"),)),
-    Exercise("10_rotation", rotation, (2, 3, 7, 20), (("ENT2 K", "ENT2 K-1"),)),
-    Exercise("11_maximum", extremes, (1, 2, 12, 90), (("JLE NEXT", "JGE NEXT"),)),
-    Exercise("12_sieve", smallest_factors, (2, 130, 140, 110, 150), (("JANZ 1F", "JAZ 1F"),)),
-    Exercise("13_josephus", last_man, (1, 2, 11, 24), (("INCX M", "INCX M-1"),)),
-    Exercise("14_saddle_point", all_saddle_points, (2, 3, 5, 9), (("CMPA MAX,1", "CMPA A,3"), ("JLE 1B", "JGE 1B"))),
-    Exercise("15_farey", farey_lines, (2, 5, 9, 20), (("INC1 2", "INC1 1"), ("INCX N", "INCX N-1"))),
-    Exercise("17_cycles_counted", fixed_points, (1, 2, 3, 4, 5), (("JNE 1F", "JE 1F"),)),
-    Exercise("18_inverse", longest_inverse, (0,), (), put=False),
-    Exercise("20_entrances_exits", three_exits, (1, 5, 20), (("JXZ 1,3", "JXZ 2,3"),)),
-    Exercise("21_recursion", recursive_fibonacci, (1, 3, 5, 8, 12), (("LD1 STACK,6(4:5)", "NOP STACK,6(4:5)"), ("ADD STACK-1,6", "LDA STACK-1,6"))),
-    Exercise("22_coroutines", swapped_text, (0, 1, 2, 9, 21), (("STA LINE,2(2:2)", "STA LINE,2(3:3)"),)),
-    Exercise("23_interpreter", squares, (0, 1, 0, 4, 0), (("JMP DOCOPY", "JMP DOPUSH"),)),
-    Exercise("24_trace", traced_values, (0, 1, 3, 0, 2, 0), (("JMP DO", "JMP INSTR"), ("J6NN DO", "J6P DO"))),
-    Exercise("25_buffers", two_buffers, (1, 2, 6, 12), (("ENN3 -16,3", "ENN3 0,3"), ("JBUS *(READER)", "NOP *(READER)"))),
-    Exercise("05_overflow", fibonacci, (0, 1, 4, 2, 3), (("JOV DONE", "JNOV DONE"),)),
-    Exercise("16_hunt", checked_sum, (4, 5, 10, 11), (("JOV *+1", "NOP *+1"),)),
-    Exercise("06_loader", punched, (1, 7, 8, 20), (("CMP3 =14=", "CMP3 =12="),)),
-]

@@ -1,5 +1,5 @@
 """The exercises of chapter 2: what their programs must leave, by Python's lists, dictionaries and recursion."""
-from exercise import Case, Exercise
+from exercise import Case
 from linked_lists import list_lines, moved_to_the_left, queued, served
 from stacks import coded, taken
 from trees import drawn_tree, inorder, lines, reached
@@ -106,17 +106,3 @@ def rows_in_both_directions(draw, n):
     row = moved_to_the_left(orders)
     links = tuple(f"writes NODES+{2 * k - 1} >= 2" for k in range(1, n + 1))
     return Case({"M": n + 1, "data": [*orders, 0]}, [*row, *row[::-1]], (f"ROW+1 ROW+{n}", f"BACK+1 BACK+{n}"), always=links)
-
-
-EXERCISES = [
-    Exercise("30_queue", full_queue, (0, 9, 25), (("JE AMISS", "JG AMISS"),)),
-    Exercise("31_repacking", removed_tops, (1, 3, 9, 20), (("JE NEXT", "NOP NEXT"), ("STA 1,4", "STA 0,4"), ("CMP3 =N=", "CMP3 =N-1="))),
-    Exercise("32_topological_sort", circle_left, (3, 9, 18), (("JAZ 2F", "JANZ 2F"),)),
-    Exercise("33_polynomials", given_back, (1, 3, 12), (("ST6 P+1(4:5)", "ST5 P+1(4:5)"),)),
-    Exercise("34_double_links", rows_in_both_directions, (3, 8, 20),
-             (("ST1 1,2(4:5)", "NOP 1,2(4:5)"), ("ST2 1,3(1:2)", "NOP 1,3(1:2)"), ("ST3 1,2(4:5)", "NOP 1,2(4:5)"))),
-    Exercise("35_counter", two_clerks, (1, 2, 6, 20), (("JGE READY", "JG READY"),)),
-    Exercise("40_tree_stack", preorder, (1, 2, 8, 20), (("LD1 TREE,1(1:2)", "LD1 TREE,1(3:4)"),)),
-    Exercise("41_tree_threads", threads, (1, 2, 8, 20), (("J4Z 3F", "J4NZ 3F"),)),
-    Exercise("42_marking", free_nodes, (1, 2, 9, 25), (("JAP 4F", "JANP 4F"),)),
-]

@@ -2,7 +2,7 @@
 import functools
 
 from deleting import columns_of, deleted, grown, inserted, lazily, subtree
-from exercise import Case, Exercise
+from exercise import Case
 from machine import CHARACTERS
 from searching import doubly_hashed, probes
 from sorting import inversions, passes, rightmost
@@ -192,24 +192,3 @@ def sorted_cards(draw, n):
     cards = [key + "".join(draw.one_of(letters) for _ in range(71)) + "%04d" % at for at, key in enumerate(keys)]
     deck = [*(f"%UNIT {tape} delay 20" for tape in range(4)), "%UNIT 16", *draw.shuffled(cards), "99999"]
     return Case({}, sorted(cards, key=lambda card: [CHARACTERS.index(one) for one in card[:5]]), deck=deck, steps=400000, strict=True)
-
-
-EXERCISES = [
-    Exercise("50_insertion", stable_words, (2, 3, 8, 30), (("JLE PLACE", "JL PLACE"),)),
-    Exercise("51_shell", three_increments, (16, 25, 40), (("CON 3", "CON 9"),)),
-    Exercise("52_bubble", selected, (2, 3, 9, 40), (("JGE 2F", "JLE 2F"), ("ENT3 0,2", "ENT3 0,1"))),
-    Exercise("53_quicksort", keys_in_order, (8,), (), put=False),
-    Exercise("55_heapsort", three_largest, (4, 10, 40), (("CMP2 =N-3=", "CMP2 =N-2="),)),
-    Exercise("56_list_merge", keys_in_table, (2, 4, 8, 90), (("STA TABLE,2", "STA TABLE-1,2"),)),
-    Exercise("57_list_merge_sort", keys_of_two_words, (3, 5, 16, 250), (("CMPX LOW,2", "CMPA LOW,2"), ("JL FIRST", "NOP FIRST"))),
-    Exercise("58_radix", last_two_digits, (1, 2, 8, 60), (("CMP6 =P=", "CMP6 =P+1="),)),
-    Exercise("60_sequential_search", two_at_once, (1, 2, 9, 40), (("DEC1 2", "DEC1 1"),)),
-    Exercise("61_binary_search", by_halves, (1, 2, 7, 16, 17, 31, 30), (("DEC1 0,3", "DEC1 1,3"),)),
-    Exercise("62_search_tree", fewest_comparisons, (0,), (), put=False),
-    Exercise("65_hashing", opposite_order, (7,), (), put=False),
-    Exercise("63_tree_deletion", without_some, (1, 5, 9, 25), (("ST3 0,5", "ST2 0,5"), ("ST4 RIGHT,3", "NOP RIGHT,3"), ("J4Z 2F", "JMP 2F"))),
-    Exercise("64_balanced_tree", levels, (0, 1, 2, 5, 20, 60), (("JAN 2F", "JAP 2F"),)),
-    Exercise("66_chaining", by_two_remainders, (1, 4, 10, 16, 34, 55), (("DIV =M-2=", "DIV =M-1="), ("INC2 M", "INC2 M-1"))),
-    Exercise("67_hash_deletion", lazy_orders, (1, 3, 9, 30), (("J4NN BELOW", "NOP BELOW"), ("JXN FREED", "JXN ABSENT"), ("ENNX 1", "ENTX 0"))),
-    Exercise("59_tapes", sorted_cards, (1, 2, 3, 12, 260), (("CMPX LAST", "CMPA LAST"),)),
-]

@@ -1,6 +1,6 @@
 """The exercises of the lessons on numbers, on counting and lists, on Fibonaccian search and tries: what their programs must leave, by Python's own numbers."""
 from arithmetic import WORD, digits_of, permuted, sums_of, words_of
-from exercise import Case, Exercise
+from exercise import Case
 from merging import beginnings, runs_of
 from more_sorting import hundreds, linked, radix_parts
 from permutations import drawn_formula, images_of, taken
@@ -112,19 +112,3 @@ def read_once(draw, size):
     """Cycles of up to five letters."""
     formula, data = drawn_formula(lambda length: draw.shuffled("ABCDEFGHIJKLMNOPQRSTUVWXYZ")[:length], draw.numbers(size, 1, 5) if size > 1 else [size + 1])
     return Case({"N": len(formula), "data": data}, images_of(taken(formula)), ("IMAGE+1 IMAGE+29",), (f"clock <= {25 * len(formula) + 400}",))
-
-
-EXERCISES = [
-    Exercise("09_permutations", read_once, (0, 1, 3, 6, 12, 5, 16), (("JANZ 2F", "NOP 2F"), ("ENT3 0,2", "NOP 0,2"))),
-    Exercise("19_magic_square", magic_or_not, (30, 31, 32, 33, 53, 73, 93, 50, 113), (("ENT2 N+1", "ENT2 N"), ("JNE BAD", "NOP BAD"))),
-    Exercise("54_list_insertion", ten_lists, (1, 2, 12, 60), (("DIV =100=", "DIV =10="), ("JLE PUT", "JGE PUT"))),
-    Exercise("68_fibonaccian_search", any_size, (1, 4, 12, 20, 21, 30, 16, 31), (("JG DOWN", "NOP DOWN"), ("DEC2 0,3", "DEC2 1"))),
-    Exercise("69_tries", growing_trie, (1, 2, 40, 12, 60), (("SLAX 1,5", "SLAX 0,5"), ("INC3 8", "INC3 7"), ("JE DONE", "NOP DONE"))),
-    Exercise("70_comparison_counting", by_digits, (1, 2, 9, 60), (("DEC3 1", "NOP 1"), ("CMP2 =10=", "CMP2 =9="))),
-    Exercise("71_merge_exchange", transposed, (2, 3, 9, 30), (("INC3 2", "INC3 1"), ("ENT2 1", "ENT2 2"))),
-    Exercise("72_radix_exchange", kth_smallest, (1, 2, 3, 9, 80), (("JLE 1F", "JL 1F"), ("STA LOW", "NOP LOW"))),
-    Exercise("73_replacement_selection", turning_runs, (1, 4, 16, 90, 20, 60), (("SUB MOST", "NOP MOST"), ("ST2 LOSER,3", "NOP LOSER,3"))),
-    Exercise("80_random_numbers", shuffled, (1, 2, 9, 40), (("MUL J", "MUL =6="), ("STA TABLE,1", "NOP TABLE,1"))),
-    Exercise("81_multiple_precision", long_product, (0, 1, 3, 6, 2, 5), (("ADD CARRY", "NOP CARRY"), ("STX CARRY", "STZ CARRY"))),
-    Exercise("82_radix_conversion", back_from_digits, (0, 1, 2, 3, 5, 7, 5, 4, 6), (("JANZ LARGE", "NOP LARGE"), ("JOV LARGE", "NOP LARGE"))),
-]

@@ -4,7 +4,8 @@ import itertools
 import math
 import random
 
-from counting import RUN, Lesson, measured, times
+from counting import RUN, measured, times
+from sorting import right_maxima
 
 
 def degrees(run):
@@ -16,24 +17,15 @@ def degrees(run):
         yield f"{celsius} degrees in Fahrenheit, and the fifths left over", ran.numbers("show values CELSIUS REMAIN"), wanted
         yield f"how the run of {celsius} ends", ran.end, "halt"
         yield f"the lower half of the product of {celsius}", ran.register("X"), 9 * celsius
-    for fahrenheit in (98, 20, 0, -40, 451, 99, 100, 101):
-        ran = run("answer.mixal", script=[f"set cell FAHREN {fahrenheit}", "run 100", "show values FAHREN RESULT"])
-        nearest = round((fahrenheit - 32) * 5 / 9)  # a ninth is never half way
-        yield f"{fahrenheit} degrees in Celsius", ran.numbers("show values FAHREN RESULT"), [fahrenheit, nearest]
-
-
-def date_word(sign, day, month, year):
-    return "%s %02d %02d 00 %02d %02d" % (sign, day, month, *divmod(year, 64))
 
 
 def fields(run):
     for day, month, year in ((24, 11, 1938), (1, 1, 1), (31, 12, 4094)):
         put = f"set cell DATE {day}(1:1),{month}(2:2),{year}(4:5)"
         ran = run(script=[put, "run 100", "show cells DATE DATE", "show values DAY YEAR"])
-        yield "the date moved on", ran.lines("show cells DATE DATE")[0][5:], date_word("-", day, 1, year + 1)
+        moved = "- %02d 01 00 %02d %02d" % (day, *divmod(year + 1, 64))
+        yield "the date moved on", ran.lines("show cells DATE DATE")[0][5:], moved
         yield "its parts before, and how the run ends", (ran.numbers("show values DAY YEAR"), ran.end), ([day, month, year], "halt")
-        ran = run("answer.mixal", script=[put, "run 100", "show cells DATE DATE"])
-        yield "day and month changed", ran.lines("show cells DATE DATE")[0][5:], date_word("+", month, day, year)
 
 
 def reversal(run):
@@ -54,15 +46,10 @@ def rotation(run):
             yield from times(ran, N=n, B=k // 2 + (n - k) // 2 + n // 2)
 
 
-def new_extremes(table, better):
-    """How many entries, from the right but the last, are better than all on their right."""
-    return sum(all(better(one, other) for other in table[at + 1 :]) for at, one in enumerate(table[:-1]))
-
-
 def maximum(run):
     tables = [[31, 41, 59, 26, 53, 58, 97, 93, 23, 84], [5], [2, 1], [1, 2], [7, 7, 7], list(range(1, 31)), list(range(30, 0, -1))]
     for table in tables:
-        more, less = (new_extremes(table, better) for better in (lambda a, b: a > b, lambda a, b: a < b))
+        more, less = right_maxima(table), right_maxima([-entry for entry in table])
         place = len(table) - table[::-1].index(max(table))
         ran = run(N=len(table), data=table, script=[*RUN, "show values"])
         yield "the largest entry and its position", (ran.register("A"), ran.register("I2")), (max(table), place)
@@ -97,8 +84,6 @@ def sieve(run):
         last = [max([p for p in factors(k) if p * p <= k], default=0) for k in range(2, n + 1)]
         yield "who struck out last: the largest factor whose square is no larger", ran.numbers(cells), last
         yield from times(ran, N=n, R=root - 1, Q=len(small), S=struck, P=len(primes))
-        ran = run("answer.mixal", N=n, script=[*RUN, cells])
-        yield "who struck out first: the smallest factor", ran.numbers(cells), [0 if is_prime(k) else factors(k)[0] for k in range(2, n + 1)]
 
 
 def eliminated(n, m):
@@ -141,10 +126,6 @@ def overflow(run):
         yield "the table moved down", ran.numbers(shows[1]), [*plain, plain[-1]]
         yield "the table moved up", ran.numbers(shows[2]), [plain[0]] * (n + 1)
         yield from times(ran, N=n, C=sum(table) // 64**5)
-    for first, second in ((1, 1), (2, 1), (0, 7), (64**5 - 1, 1), (5000, 64**4)):
-        put = [f"set cell FIRST {first}", f"set cell SECOND {second}"]
-        ran = run("answer.mixal", script=[*put, "run 1000", "show values RESULT INDEX"])
-        yield f"the largest number in a word after {first} and {second}, and its index", ran.numbers("show values RESULT INDEX"), largest_sum(first, second)
 
 
 def quotients(m, n):
@@ -167,9 +148,6 @@ def euclid(run):
         divisors = [d for d in range(1, min(m, n, 5000) + 1) if m % d == n % d == 0]
         yield f"the divisor of {m} and {n}", ran.numbers("show values GCD GCD"), divisors[-1:]
         yield from times(ran, T=len(quotients(m, n)))
-        if m * n // divisors[-1] < 64**5:
-            ran = run("answer.mixal", script=[*put, "run 1000", "show values LCM LCM"])
-            yield f"the multiple of {m} and {n}", ran.numbers("show values LCM LCM"), [m * n // divisors[-1]]
 
 
 def farey(run):
@@ -182,8 +160,6 @@ def farey(run):
         yield f"the fractions of order {n}", [fractions.Fraction(*one) for one in zip(*(ran.numbers(show) for show in shows[1:]))], series
         yield f"in lowest terms, for {n}", ran.numbers(shows[2]), [one.denominator for one in series]
         yield from times(ran, F=coprime)
-        ran = run("answer.mixal", N=n, script=["run 100000", "show unit 18"])
-        yield f"the fractions of order {n}, printed", ran.rows(18), ["%05d  /  %05d" % (one.numerator, one.denominator) for one in series]
 
 
 def first_hour(run):
@@ -200,18 +176,3 @@ def first_hour(run):
             yield f"{name}: the sum for {n}", ran.numbers("show values SUM SUM"), [wanted]
             yield f"{name}: what is printed for {n}", ran.rows(18), ["%05d" % wanted] * (name == "printed.mixal")
     yield "the steps without a HLT: those to the sum, and a cell after the other", run("sum.mixal", script=["run 10000"]).steps, 2 + 3 * 10 + 1 + 4000 - 3006
-
-
-LESSONS = [
-    Lesson("00_first_hour", first_hour, ("DECA 10", "INCA 10")),
-    Lesson("01_euclid", euclid, ("SRAX 5", "SRAX 4")),
-    Lesson("02_degrees", degrees, ("DIV  =5=", "DIV  =4=")),
-    Lesson("03_fields", fields, ("STA  DATE(2:2)", "STA  DATE(1:2)")),
-    Lesson("04_reversal", reversal, ("JL   SWAP", "JLE  SWAP")),
-    Lesson("10_rotation", rotation, ("ENT1 K+1", "ENT1 K")),
-    Lesson("11_maximum", maximum, ("JGE  NEXT", "JG   NEXT")),
-    Lesson("12_sieve", sieve, ("JG   COLLECT", "JGE  COLLECT")),
-    Lesson("13_josephus", josephus, ("ENT4 M-1", "ENT4 M")),
-    Lesson("15_farey", farey, ("SUB  X,1", "SUB  Y,1")),
-    Lesson("05_overflow", overflow, ("JNOV 2F", "JOV  2F")),
-]

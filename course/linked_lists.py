@@ -2,7 +2,7 @@
 import itertools
 import random
 
-from counting import RUN, Lesson, times
+from counting import RUN, times
 
 
 def queued(operations, room):
@@ -32,10 +32,6 @@ def queue(run):
         yield f"what is removed from {places} cells", ran.numbers(show), [*out, 0]
         yield "overflows and underflows", ran.register("I6"), over + under
         yield from times(ran, I=tried, D=taken, O=over, U=under, A=put // places + vain, B=len(out) // places)
-        out, over, under, _ = queued(operations, places)
-        show = f"show values TAKEN+1 TAKEN+{len(out) + 1}"
-        ran = run("answer.mixal", M=places, data=[*operations, -1], script=[*RUN, show, "show values"])
-        yield f"what is removed when all {places} cells are used", (ran.numbers(show), ran.register("I6")), ([*out, 0], over + under)
 
 
 def descendants(relations, things):
@@ -152,8 +148,6 @@ def counter(run):
         passed = sum(begin < come <= end for begin, end in zip(begins, ends) for come in comes)
         last = 1 + sum(all(come <= end for come in comes) for end in ends)
         yield from times(ran, N=n, S=passed, V=last, W=sum(come <= end for come, end in zip(comes[1:], ends)))
-        ran = run("answer.mixal", N=n, data={"comes": comes, "needs": needs}, script=[*RUN, show])
-        yield "when each is served by two clerks", ran.numbers(show), served(comes, needs, 2)
 
 
 def removed(orders):
@@ -196,16 +190,3 @@ def double_links(run):
         ran = run(M=inserted + 2, data=[*orders, 0], script=[*RUN, show])
         yield "what is removed, in its order", ran.numbers(show)[1 : len(gone) + 1], gone
         yield from times(ran, M=inserted + 2, I=inserted, D=len(orders) - inserted, E=missed, C=compared)
-        left = moved_to_the_left(orders)
-        shows = [f"show values ROW+1 ROW+{max(len(left), 1)}", f"show values BACK+1 BACK+{max(len(left), 1)}"]
-        ran = run("answer.mixal", M=inserted + 2, data=[*orders, 0], script=["run 100000", *shows])
-        yield "the row in both directions", [ran.numbers(show)[: len(left)] for show in shows], [left, left[::-1]]
-
-
-LESSONS = [
-    Lesson("30_queue", queue, ("CMP1 =M=", "CMP2 =M=")),
-    Lesson("32_topological_sort", topological_sort, ("JANZ 5F", "JAZ  5F")),
-    Lesson("33_polynomials", polynomials, ("JAZ  DELETE", "JAN  DELETE")),
-    Lesson("34_double_links", double_links, ("ST2  1,3(1:2)", "ST2  1,3(4:5)")),
-    Lesson("35_counter", counter, ("JL   2F", "JG   2F")),
-]

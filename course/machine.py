@@ -1,5 +1,5 @@
 """The tables of the machine: its operations and its characters, read from docs/operations.tsv and docs/characters.tsv, and its units.
-The card is made of them, and times are taken from them; `tests/tables` compares them with the program."""
+The card is made of them, and times are taken from them; `tests/test_tables.py` compares them with the program."""
 import pathlib
 from collections import namedtuple
 

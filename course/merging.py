@@ -2,7 +2,7 @@
 form, and runs by lists that are sorted for each key."""
 import random
 
-from counting import RUN, Lesson, measured, times
+from counting import RUN, measured, times
 from machine import CHARACTERS
 from sorting import along_links
 
@@ -34,9 +34,6 @@ def list_merge_sort(run):
         order = along_links(ran, n)
         yield f"the order of {table}, equal keys as they were", order, sorted(range(1, n + 1), key=lambda k: table[k - 1])
         yield from times(ran, N=n, **merges_of(table))
-        low = [draw.randrange(1, 9) for _ in table]
-        ran = run("answer.mixal", N=n, data={"high": table, "low": low}, script=["run 100000", "show values ORDER+1 ORDER+N"])
-        yield f"the order of {table} and {low}", ran.numbers("show values ORDER+1 ORDER+N"), sorted(range(1, n + 1), key=lambda k: (table[k - 1], low[k - 1]))
 
 
 NINES = "99999"
@@ -65,11 +62,6 @@ def tapes(run):
         ran = run(deck=deck_of([*one, NINES, *two, NINES], delay), script=[*RUN, "show unit 18"])
         yield f"{first} and {second} records, merged", ran.rows(18), sorted(cards, key=key_of)
         yield from times(ran, waiting=True, R=len(cards), I=len(one), D=delay)
-    for size in (0, 1, 2, 3, 8, 20):
-        cards = drawn_cards(draw, size)
-        for deal in (cards, sorted(cards, key=key_of), sorted(cards, key=key_of)[::-1]):
-            ran = run("answer.mixal", deck=deck_of([*deal, NINES], draw.choice([0, 1, 5])), script=["run 100000", "show unit 18"])
-            yield f"{size} records, sorted", (ran.end, ran.rows(18)), ("halt", sorted(cards, key=key_of))
 
 
 def runs_of(keys, places, turning=False):
@@ -112,10 +104,3 @@ def replacement_selection(run):
                     yield "matches on the way up", found["L"], (len(keys) + places) * (places.bit_length() - 1)
             if len(keys) == 480 and not turning:
                 yield "runs of about 2P keys, as the text says", (len(runs), len(keys) // len(runs)), (32, 15)
-
-
-LESSONS = [
-    Lesson("57_list_merge_sort", list_merge_sort, ("ENT3 0,2", "ENT3 0,1")),
-    Lesson("73_replacement_selection", replacement_selection, ("JGE  PUT", "JLE  PUT")),
-    Lesson("59_tapes", tapes, ("JG   2F", "JL   2F")),
-]

@@ -1,7 +1,7 @@
 """Facts of the lessons on counting, list insertion, merge exchange and radix exchange: orders by Python's sort, a network by its comparisons, parts by sizes."""
 import itertools
 
-from counting import RUN, Lesson, times
+from counting import RUN, times
 from sorting import SHOW, along_links, drawn_tables, inversions, right_maxima
 
 OWN = [50, 20, 70, 10, 40, 30, 80, 60]
@@ -26,9 +26,6 @@ def list_insertion(run):
         ran = run(N=n, data=keys, script=[*RUN, "show values LINK LINK+N"])
         yield f"the order of {keys}", along_links(ran, n), sorted(range(1, n + 1), key=lambda k: keys[k - 1])
         yield from times(ran, N=n, A=right_maxima(keys), B=inversions(keys))
-        shows = ["show values HEAD HEAD+9", f"show values LINK+1 LINK+{n}"]
-        ran = run("answer.mixal", N=n, data=keys, script=["run 100000", *shows])
-        yield f"several lists of {keys}", tuple(ran.numbers(show) for show in shows), linked(hundreds(keys), n)
 
 
 def comparison_counting(run):
@@ -38,10 +35,6 @@ def comparison_counting(run):
         before = [sum((other, k) < (key, at) for k, other in enumerate(keys)) for at, key in enumerate(keys)]
         yield f"how many come before each of {keys}", ran.numbers("show values COUNT+1 COUNT+N"), before
         yield from times(ran, N=n, B=inversions(keys))
-        words = [f"        CON  {at % 60 + 1}(1:1),{key % 10}(5:5)" for at, key in enumerate(keys)]
-        ran = run("answer.mixal", N=n, data=words, script=["run 100000", "show cells SORTED+1 SORTED+N"])
-        found = [(bytes[0], bytes[4]) for _, bytes in ran.words("show cells SORTED+1 SORTED+N").values()]
-        yield "the words by their digits", found, sorted(((at % 60 + 1, key % 10) for at, key in enumerate(keys)), key=lambda word: word[1])
 
 
 def network(n):
@@ -117,14 +110,3 @@ def radix_exchange(run):
         yield from times(ran, N=n, **letters)
         alike = (max(digits - (key ^ other).bit_length() for at, other in enumerate(keys) if at != place) for place, key in enumerate(keys))
         yield "digits inspected: those that a key has in common with another, and one more", letters["M"], sum(min(one + 1, digits) for one in alike)
-        for k in (1, n // 2 + 1, n):
-            ran = run("answer.mixal", N=n, K=k, FIRST=first, data=keys, script=["run 100000", "show values KTH KTH"])
-            yield f"key {k} of {keys} in order", ran.numbers("show values KTH KTH"), [sorted(keys)[k - 1]]
-
-
-LESSONS = [
-    Lesson("54_list_insertion", list_insertion, ("JLE  PUT", "JL   PUT")),
-    Lesson("70_comparison_counting", comparison_counting, ("JGE  2F", "JG   2F")),
-    Lesson("71_merge_exchange", merge_exchange, ("ENT6 0,5", "ENT6 0")),
-    Lesson("72_radix_exchange", radix_exchange, ("JLE  ONE", "JL   ONE")),
-]

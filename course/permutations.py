@@ -6,7 +6,7 @@ import re
 from fractions import Fraction
 from math import comb, factorial
 
-from counting import RUN, Lesson, measured, times
+from counting import RUN, measured, times
 from machine import CHARACTERS
 
 
@@ -119,10 +119,3 @@ def inverse(run):
     ran = run("answer.mixal", script=[*RUN, show])
     yield "the inverse that takes longest", ran.numbers(show), [2, 3, 4, 5, 6, 1]
     yield from times(ran, N=6, A=max(map(larger_before, itertools.permutations(range(1, 7)))))
-
-
-LESSONS = [
-    Lesson("09_permutations", products, ("LDX  TEXT+1,1", "LDX  TEXT+2,1")),
-    Lesson("17_cycles_counted", cycles_counted, ("JG   WALK", "JGE  WALK")),
-    Lesson("18_inverse", inverse, ("ST1  X,4", "ST2  X,4")),
-]

@@ -1,5 +1,4 @@
 """Runs a lesson's bundle with a program, with other data or one instruction changed, and reads what it writes."""
-import importlib
 import json
 import os
 import pathlib
@@ -15,12 +14,6 @@ MARK = "show value 1073741823"  # its reply parts the replies of the commands
 MARKED = '+ 63 63 63 63 63  1073741823  "?????"'
 RAN = re.compile(r"ran (\d+) to (\d+) clock (\d+): (.*)")
 COUNTED = re.compile(r" *(\d+) +(\d+)  (\d{4})  ( *\d+)[ *] (.*)")
-
-
-def all_lessons():
-    """The lessons of all modules, in their order."""
-    topics = "arithmetic cards deleting first_programs linked_lists merging more_sorting permutations searching sorting stacks subroutines trees".split()
-    return sorted(lesson for topic in topics for lesson in importlib.import_module(topic).LESSONS)
 
 
 def done(main):
@@ -96,20 +89,31 @@ def replies_of(program, bundle):
     return replies[:-1]
 
 
-def console_replies(program, bundle):
-    """The same of lines that a person types, of which a script may not have all: from the console of the debug adapter."""
+def asked(program, bundle, requests):
+    """The responses of the debug adapter to requests about the program of a bundle, which waits
+    before its first step."""
     source, deck = ("".join(f"{line}\n" for line in part) for part in (bundle.source, bundle.deck))
-    lines = [("evaluate", {"expression": line, "context": "repl"}) for line in bundle.commands()]
     launch = {"sourceText": source, "devicesText": deck, "stopOnEntry": True}
-    requests = [("initialize", {"adapterID": "mixrev"}), ("launch", launch), ("configurationDone", {}), *lines]
-    asked = [json.dumps({"seq": seq, "type": "request", "command": command, "arguments": given}) for seq, (command, given) in enumerate(requests, 1)]
-    frames = "".join(f"Content-Length: {len(body)}\r\n\r\n{body}" for body in asked)
-    ran = subprocess.run([program, "dap"], input=frames.encode(), capture_output=True)
-    messages = [json.loads(body) for body in re.split(rb"Content-Length: \d+\r\n\r\n", ran.stdout)[1:]]
-    responses = [message for message in messages if message["type"] == "response"]
-    if len(responses) != len(requests) or not responses[1]["success"]:
+    begin = ("initialize", {"adapterID": "mixrev"}), ("launch", launch)
+    opening = [*begin, ("configurationDone", {})]
+    frames = b""
+    for seq, (command, given) in enumerate([*opening, *requests], 1):
+        body = {"seq": seq, "type": "request", "command": command, "arguments": given}
+        body = json.dumps(body).encode()
+        frames += b"Content-Length: %d\r\n\r\n%s" % (len(body), body)
+    ran = subprocess.run([program, "dap"], input=frames, capture_output=True)
+    bodies = map(json.loads, re.split(rb"Content-Length: \d+\r\n\r\n", ran.stdout)[1:])
+    responses = [message for message in bodies if message["type"] == "response"]
+    if len(responses) != len(opening) + len(requests) or not responses[1]["success"]:
         raise Refused(responses[1]["message"] if responses[1:] else "the program has no console")
-    return [(each["body"]["result"] if each["success"] else each["message"]).splitlines() for each in responses[3:]]
+    return responses[3:]
+
+
+def console_replies(program, bundle):
+    """The replies to lines that a person types, of which a script may not have all."""
+    lines = [("evaluate", {"expression": it, "context": "repl"}) for it in bundle.commands()]
+    for each in asked(program, bundle, lines):
+        yield (each["body"]["result"] if each["success"] else each["message"]).splitlines()
 
 
 class Outcome:
@@ -173,12 +177,13 @@ class Runner:
 
 
 PATIENCE = 60  # seconds in which a prompt has to come
+PROMPT = b"(mixrev) "
 
 
-def read_to_prompt(terminal, prompt):
+def read_to_prompt(terminal):
     """What is written up to the next prompt, or to the end of the session."""
     seen = b""
-    while not seen.endswith(prompt.encode()):
+    while not seen.endswith(PROMPT):
         if not select.select([terminal], [], [], PATIENCE)[0]:
             raise ValueError("no prompt comes")
         try:
@@ -188,24 +193,34 @@ def read_to_prompt(terminal, prompt):
         if not more:
             break
         seen += more
-    return [line.rstrip() for line in seen.decode().removesuffix(prompt).replace("\r\n", "\n").splitlines()]
+    return [line.rstrip() for line in seen.removesuffix(PROMPT).decode().splitlines()]
 
 
-def at_a_terminal(program, sources, commands, prompt):
-    """The greeting, and the lines of each reply without the command that the terminal repeats. Before a `reload` the file gets the last source."""
+def session(words, lines, folder, environment=os.environ):
+    """What a command writes in a folder at a terminal: its greeting, and then what follows each
+    line, without the line itself, which the terminal repeats."""
+    ours, theirs = pty.openpty()
+    how = {"env": {**environment, "TERM": "dumb"}, "start_new_session": True, "cwd": folder}
+    talk = subprocess.Popen(words, stdin=theirs, stdout=theirs, stderr=theirs, **how)
+    os.close(theirs)
+    yield read_to_prompt(ours)
+    for line in lines:
+        os.write(ours, f"{line}\n".encode())
+        yield read_to_prompt(ours)[1:]
+    os.close(ours)
+    talk.wait(PATIENCE)
+
+
+def at_a_terminal(program, sources, commands):
+    """The same of `debug` and a source. Before a `reload` its file gets the last source."""
     with tempfile.TemporaryDirectory() as folder:
         file = pathlib.Path(folder, "sum.mixal")
         file.write_text("".join(f"{line}\n" for line in sources[0]))
-        ours, theirs = pty.openpty()
-        talk = subprocess.Popen([program, "debug", file.name], cwd=folder, stdin=theirs, stdout=theirs, stderr=theirs, env={**os.environ, "TERM": "dumb"},
-                                start_new_session=True)
-        os.close(theirs)
-        replies = [read_to_prompt(ours, prompt)]
-        for command in commands:
-            if command == "reload":
-                file.write_text("".join(f"{line}\n" for line in sources[-1]))
-            os.write(ours, f"{command}\n".encode())
-            replies.append(read_to_prompt(ours, prompt)[1:])
-        os.close(ours)
-        talk.wait(PATIENCE)
-        return replies
+
+        def typed():
+            for command in commands:
+                if command == "reload":
+                    file.write_text("".join(f"{line}\n" for line in sources[-1]))
+                yield command
+
+        return list(session([program, "debug", file.name], typed(), folder))

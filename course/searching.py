@@ -1,7 +1,7 @@
 """Facts of the lessons of chapter 6: positions by Python's lists, path lengths by formulas, ancestors by the order of insertion, probes in other orders."""
 import random
 
-from counting import RUN, Lesson, measured, times
+from counting import RUN, measured, times
 
 FIBONACCI = (0, 1, 1, 2, 3, 5, 8, 13, 21, 34, 55)
 
@@ -74,19 +74,16 @@ def fibonacci_moves(order, place):
 def fibonaccian_search(run):
     for order in (4, 5, 7, 9):
         first, second, third = FIBONACCI[order], FIBONACCI[order - 1], FIBONACCI[order - 2]
-        for n in (first + second - 1, first + second - 2, first):
-            keys = [10 * k for k in range(1, n + 1)]
-            for wanted in range(5, 10 * n + 6, 5):
-                place = wanted // 10 if wanted % 10 == 0 else 0
-                ran = run("answer.mixal", N=n, WANTED=wanted, data={"data": keys, "numbers": [first, second, third]}, script=["run 1000", "show values"])
-                yield f"the position of {wanted} among {n}", ran.register("I1"), place
-                if n < first + second - 1:
-                    continue
-                ran = run(N=n, F=first, P=second, Q=third, WANTED=wanted, data=keys, script=[*RUN, "show values"])
-                yield f"the position of {wanted}", ran.register("I1"), place
-                looks, left, right, found = fibonacci_moves(order, place or wanted / 10)
-                ends = 0 if found else int(measured(ran, "D")["D"] < left)
-                yield from times(ran, N=n, S=found, C=looks, D=left - ends, U=right)
+        n = first + second - 1
+        keys = [10 * k for k in range(1, n + 1)]
+        for wanted in range(5, 10 * n + 6, 5):
+            place = wanted // 10 if wanted % 10 == 0 else 0
+            sizes = {"N": n, "F": first, "P": second, "Q": third, "WANTED": wanted}
+            ran = run(data=keys, script=[*RUN, "show values"], **sizes)
+            yield f"the position of {wanted}", ran.register("I1"), place
+            looks, left, right, found = fibonacci_moves(order, place or wanted / 10)
+            ends = 0 if found else int(measured(ran, "D")["D"] < left)
+            yield from times(ran, N=n, S=found, C=looks, D=left - ends, U=right)
 
 
 def above(keys, place):
@@ -200,18 +197,5 @@ def chaining(run):
         yield "the nodes of the keys", ran.numbers("show values KEY+1 KEY+M"), [held.get(node, 0) for node in range(1, m + 1)]
         yield "the links of the chains", ran.numbers("show values LINK+1 LINK+M"), [links.get(node, 0) for node in range(1, m + 1)]
         yield from times(ran, N=len(keys), **counts)
-        if len(set(keys)) < m and m > 4:
-            ran = run("answer.mixal", N=len(keys), M=m, data=keys, script=["run 100000", "show values TABLE TABLE+M-1"])
-            yield "the table of double hashing", ran.numbers("show values TABLE TABLE+M-1"), doubly_hashed(keys, m)
     ran = run(N=4, M=3, data=[1, 2, 3, 4], script=["run 10000", "show values"])
     yield "no free node", (ran.end, ran.register("I6")), ("halt", 1)
-
-
-LESSONS = [
-    Lesson("60_sequential_search", sequential_search, ("J1P  LOOK", "J1NN LOOK")),
-    Lesson("68_fibonaccian_search", fibonaccian_search, ("DEC2 0,3", "DEC2 1")),
-    Lesson("61_binary_search", binary_search, ("ENT1 1,3", "ENT1 0,3")),
-    Lesson("62_search_tree", search_tree, ("LD3  LEFT,2", "LD3  RIGHT,2")),
-    Lesson("65_hashing", hashing, ("ENT2 M-1", "ENT2 M")),
-    Lesson("66_chaining", chaining, ("INC2 1", "INC2 2")),
-]

@@ -4,7 +4,7 @@ import random
 from fractions import Fraction
 from math import factorial
 
-from counting import RUN, Lesson, count_at, measured, times
+from counting import RUN, count_at, measured, times
 
 SHOW = "show values KEY+1 KEY+N"
 
@@ -38,12 +38,6 @@ def insertion(run):
     yield "B in all orders of four: half of the pairs of positions", moves, factorial(4) * 6 // 2
     own = [50, 20, 70, 10, 40, 30, 90, 60, 100, 80]
     yield "inversions and maxima of the lesson's keys, as its text says", (inversions(own), right_maxima(own)), (13, 1)
-    draw = random.Random(1)
-    for n in (6, 30):
-        words = [(draw.randrange(1, 60), draw.randrange(1, 5)) for _ in range(n)]
-        ran = run("answer.mixal", N=n, data=[f"        CON  {letter}(1:1),{key}(4:5)" for letter, key in words], script=["run 100000", "show cells KEY+1 KEY+N"])
-        found = [(bytes[0], bytes[4]) for _, bytes in ran.words("show cells KEY+1 KEY+N").values()]
-        yield "the words in order, equal ones in their old order", found, sorted(words, key=lambda word: word[1])
 
 
 def passes(table, increments):
@@ -113,9 +107,6 @@ def heapsort(run):
         found, sifts = measured(ran, "BI"), n // 2 + n - 1
         one_or_two = count_at(ran, "JE 2F")
         yield from times(ran, N=n, **found, S=sifts, G=sifts + found["B"] - one_or_two, E=one_or_two - count_at(ran, "CMPX KEY+1,3"))
-        if n > 3:
-            three = run("answer.mixal", N=n, data=table, script=["run 100000", "show values KEY+N-2 KEY+N"])
-            yield "the three largest", three.numbers("show values KEY+N-2 KEY+N"), sorted(table)[-3:]
     heaps = [tuple(run(N=5, data=table, script=["run 10000 until loc HEAP", SHOW]).numbers(SHOW)) for table in itertools.permutations(range(1, 6))]
     yield "each heap of five keys comes from as many orders: 5! over 5 times 3", {heaps.count(heap) for heap in set(heaps)}, {15}
     yield "heaps of five keys", len(set(heaps)), 120 // 15
@@ -146,8 +137,6 @@ def list_merge(run):
         order = along_links(ran, len(table))
         yield "each key once, in order", ([table[k - 1] for k in order], sorted(order)), (sorted(table), list(range(1, len(table) + 1)))
         yield from times(ran, N=len(table), **merges(table))
-        ran = run("answer.mixal", N=len(table), data=table, script=["run 100000", "show values TABLE+1 TABLE+N"])
-        yield "the keys in a table", ran.numbers("show values TABLE+1 TABLE+N"), sorted(table)
     for table, order in (([50, 20, 50], [2, 3, 1]), ([7, 7, 7, 7], [1, 2, 3, 4]), ([7] * 6, [5, 6, 1, 2, 3, 4])):
         ran = run(N=len(table), data=table, script=["run 100000", "show values LINK LINK+N"])
         yield f"the order of {table}, which is stable if there are 2, 4, 8 .. keys", along_links(ran, len(table)), order
@@ -202,14 +191,3 @@ def rightmost(table, n):
         at = keys.index(max(keys[:last]))
         keys[at], keys[last - 1] = keys[last - 1], keys[at]
     return [(keys[at + 1 : n], keys[at]) for at in range(n - 1)]
-
-
-LESSONS = [
-    Lesson("50_insertion", insertion, ("JLE  PLACE", "JL   PLACE")),
-    Lesson("51_shell", shell, ("ENT1 1,3", "ENT1 2,3")),
-    Lesson("52_bubble", bubble, ("ENT4 -1,2", "ENT4 -2,2")),
-    Lesson("53_quicksort", quicksort, ("JL   2B", "JLE  2B")),
-    Lesson("55_heapsort", heapsort, ("CMPX KEY+1,3", "CMPX KEY-1,3")),
-    Lesson("56_list_merge", list_merge, ("JG   3F", "JL   3F")),
-    Lesson("58_radix", radix, ("LD5  TOP,3", "LD4  TOP,3")),
-]

@@ -2,7 +2,7 @@
 import random
 from fractions import Fraction
 
-from counting import RUN, Lesson, times
+from counting import RUN, times
 
 LOW = 1000
 
@@ -94,10 +94,3 @@ def repacking(run):
             yield f"{name}: bases and tops after {orders}", (found, tops), (ends, [base + len(stack) for base, stack in zip(ends, stacks)])
             yield "what the stacks hold", [cells[base - LOW : base - LOW + len(stack)] for base, stack in zip(ends, stacks)], stacks
             yield from times(ran, N=n, **counts)
-        orders = [order for pair in zip(orders, [(stack, 0) for stack, _ in orders[::-1]]) for order in pair][: room + n]
-        ran = run("answer.mixal", N=n, ROOM=room, data={"bases": bases, "data": coded(orders)}, script=["run 100000", f"show values TAKEN TAKEN+{room}"])
-        removed = taken(orders, n)
-        yield f"what is removed by {orders}", ran.numbers(f"show values TAKEN TAKEN+{room}")[1 : len(removed) + 1], removed
-
-
-LESSONS = [Lesson("31_repacking", repacking, ("CMP3 =N=", "CMP3 =N-1="))]

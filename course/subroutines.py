@@ -1,9 +1,8 @@
 """Facts of the lessons of 1.4: divisions and texts by Python's own means, the times of waiting by closed forms."""
 import math
 import random
-import re
 
-from counting import RUN, Lesson, count_at, times
+from counting import RUN, count_at, times
 from machine import CHARACTERS
 
 
@@ -49,16 +48,6 @@ def recursion(run):
             towers = moved(towers, word[2:])
         yield f"the towers of {n} disks at the end", towers, {1: [], 2: [], 3: list(range(n, 0, -1))}
         yield from times(ran, M=moves)
-    one, two = 1, 1
-    for n in range(1, 16):
-        ran = run("answer.mixal", N=n, script=["run 100000", "show values RESULT CALLS"])
-        yield f"Fibonacci number {n}, and the calls: of these F(n) end at once, and each of the others joins two", ran.numbers("show values RESULT CALLS"), [
-            one, 2 * one - 1]
-        one, two = two, one + two
-
-
-def in_groups(text):
-    return " ".join(text[at : at + 4] for at in range(0, len(text), 4))
 
 
 def coroutines(run):
@@ -71,11 +60,9 @@ def coroutines(run):
         card = card or (spread if len(spread) <= 80 else "".join(codes))
         used = card.rindex("40") + 2
         ran = run(deck=["%UNIT 16", card], script=[*RUN, "show unit 18"])
-        yield f"the groups of {card}", ran.rows(18), [in_groups(text).rstrip()]
+        groups = " ".join(text[at : at + 4] for at in range(0, len(text), 4))
+        yield f"the groups of {card}", ran.rows(18), [groups]
         yield from times(ran, T=len(text), B=card[:used].count(" "), V=math.ceil(used / 5))
-        ran = run("answer.mixal", deck=["%UNIT 16", card], script=[*RUN, "show unit 18"])
-        swapped = re.sub(r"([^.])([^.])", r"\2\1", text)
-        yield f"the groups with exchanged characters of {card}", ran.rows(18), [in_groups(swapped).rstrip()]
 
 
 # Programs for the small machine, each with what it prints; the cell of COUNT is free for them.
@@ -99,8 +86,6 @@ def interpreter(run):
         ran = run(N=n, script=[*RUN, "show unit 18"])
         yield f"the factorial of {n}", ran.rows(18), ["%010d" % math.factorial(n)]
         yield from times(ran, N=n)
-        ran = run("answer.mixal", N=n, script=[*RUN, "show unit 18"])
-        yield f"the squares down from {n}", ran.rows(18), ["%010d" % (k * k) for k in range(n, 0, -1)]
 
 
 def traced(n):
@@ -115,13 +100,11 @@ def traced(n):
 def trace(run):
     for n in (1, 2, 3, 10, 40):
         size = 7 * n + 4
-        shows = ["show values SUM SUM", f"show values TABLE+1 TABLE+{size}", f"show values VALUES+1 VALUES+{size}"]
-        ran = run(N=n, script=[*RUN, *shows[:2]])
+        shows = ["show values SUM SUM", f"show values TABLE+1 TABLE+{size}"]
+        ran = run(N=n, script=[*RUN, *shows])
         yield f"what the traced program leaves for {n}", ran.numbers(shows[0]), [2 * sum(range(n + 1))]
         yield f"where its instructions are for {n}", ran.numbers(shows[1]), [location for location, _ in traced(n)]
         yield from times(ran, overwritten=("NOP",), S=size, T=n, J=3 * n - 1, U=1, R=3 * n + 2)
-        ran = run("answer.mixal", N=n, script=["run 100000", *shows])
-        yield f"rA before each instruction for {n}", ran.numbers(shows[2]), [held for _, held in traced(n)]
 
 
 def buffers(run):
@@ -147,13 +130,3 @@ def buffers(run):
         yield f"answer.mixal, delay {delay}: the clock", ran.clock, waited + 13 + n * (24 + 2 * work) + n - 1
     ran = run("answer.mixal", script=RUN)
     yield "no JBUS waits but the first: how often it is done", count_at(ran, "JBUS *(READER)"), 220 + 5
-
-
-LESSONS = [
-    Lesson("20_entrances_exits", entrances_exits, ("JXZ  0,3", "JXZ  1,3")),
-    Lesson("21_recursion", recursion, ("LD4  STACK,6(4:4)", "LD4  STACK,6(5:5)")),
-    Lesson("22_coroutines", coroutines, ("STA  LINE,2(2:2)", "STA  LINE,2(3:3)")),
-    Lesson("23_interpreter", interpreter, ("JANZ STEP", "JAZ  STEP")),
-    Lesson("24_trace", trace, ("DEC6 32", "DEC6 31")),
-    Lesson("25_buffers", buffers, ("INC5 0,1", "INC5 1,1")),
-]

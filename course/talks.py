@@ -11,14 +11,14 @@ import re
 import subprocess
 
 from columns import Counted, as_text, table
-from running import Bundle, at_a_terminal, replies_of
+from running import PROMPT as ENDED, Bundle, at_a_terminal, replies_of
 
 BLOCK = re.compile(r"^```text (after )?(\S+\.mixal)\n(.*?)^```$", re.S | re.M)
 COLUMNS = re.compile(r"^```text times (\S+\.mixal) (.*?)\n(.*?)^```$", re.S | re.M)
 TERMINALS = re.compile(r"^```text terminal (after )?(\S+\.mixal)(?:, then (\S+\.mixal))?\n(.*?)^```$", re.S | re.M)
 SOURCES = re.compile(r"^```mixal (\S+\.mixal)\n(.*?)^```$", re.S | re.M)
 RUNS = re.compile(r"^```text\n\$ mixrev (run .*?)\n(.*?)^```$", re.S | re.M)
-PROMPT = "(mixrev) "
+PROMPT = ENDED.decode()
 LEFT_OUT = ".."
 
 
@@ -73,7 +73,7 @@ def terminals(program, folder, text):
         shown = shown_in(found[4])
         before = before if found[1] else []
         files = [Bundle((folder / name).read_text()).source for name in found.groups()[1:3] if name]
-        replies = at_a_terminal(program, files, [command for command, _ in [*before, *shown] if command], PROMPT)
+        replies = at_a_terminal(program, files, [command for command, _ in [*before, *shown] if command])
         before += shown
         for (command, lines), reply in zip(reversed(shown), reversed(replies)):
             yield from same(f"{command or 'nothing'} of {found[2]} at a terminal", lines, reply)

@@ -2,7 +2,7 @@
 import itertools
 import random
 
-from counting import RUN, Lesson, times
+from counting import RUN, times
 from deleting import columns_of, subtree, way_to
 from exercise import Draw
 
@@ -66,8 +66,6 @@ def tree_threads(run):
         ran = run(N=len(tree), ROOT=root, data=data, script=[*RUN, show])
         yield "the letters by the threads", ran.numbers(show), [tree[node][2] for node in inorder(tree, root)]
         yield from times(ran, N=len(tree), A=sum(left > 0 for left, _, _ in tree.values()), B=sum(right > 0 for _, right, _ in tree.values()))
-        ran = run("answer.mixal", N=len(tree), ROOT=root, data=lines(tree), script=[*RUN, "show cells TREE+1 TREE+N"])
-        yield "the threads", list(ran.words("show cells TREE+1 TREE+N").values()), threaded(tree, root)
 
 
 def reached(nodes, root):
@@ -95,12 +93,6 @@ def marking(run):
         wanted = [(1, [*divmod(nodes[node][0], 64), *divmod(nodes[node][1], 64), 2 * (node in marked)]) for node in sorted(nodes)]
         yield "the nodes that are marked, and all links", found, wanted
         yield from times(ran, R=len(marked), Z=sum(nodes[node].count(0) for node in marked))
-        ran = run("answer.mixal", N=n, ROOT=root, data=data, script=["run 100000", "show cells NODE+1 NODE+N", "show values AVAIL AVAIL"])
-        free = [*sorted(set(nodes) - marked), 0]
-        links = dict(zip(free, free[1:]))
-        wanted = [(1, [*divmod(links[node], 64), 0, 0, 0] if node in links else [*divmod(nodes[node][0], 64), *divmod(nodes[node][1], 64), 0]) for node in sorted(nodes)]
-        yield "the first free node", ran.numbers("show values AVAIL AVAIL"), free[:1]
-        yield "the links of free nodes, and no marks", list(ran.words("show cells NODE+1 NODE+N").values()), wanted
 
 
 def height(tree):
@@ -226,12 +218,3 @@ def tries(run):
         yield "the trie that grows", ran.numbers(shows[1]), trie
         looks = [looked_at(word, list(dict.fromkeys(row[:at]))) for at, word in enumerate(row, 1)]
         yield from times(ran, N=n, C=len("".join(looks)), S=len(trie) // 8 - 1, F=n - len(words))
-
-
-LESSONS = [
-    Lesson("40_tree_stack", tree_stack, ("INC3 1", "INC3 2")),
-    Lesson("41_tree_threads", tree_threads, ("JANN LEFT", "JAN  LEFT")),
-    Lesson("42_marking", marking, ("ENTA 2", "ENTA 3")),
-    Lesson("64_balanced_tree", balanced_tree, ("LD5N SIDE", "LD5 SIDE")),
-    Lesson("69_tries", tries, ("INC2 0,3", "INC2 1,3")),
-]

@@ -2,14 +2,11 @@
 import re
 import textwrap
 
-import exercises_1
-import exercises_2
-import exercises_5
-import exercises_more
 from exercise import Draw
+from lessons import all_lessons
 from running import COURSE, Bundle
 
-ALL = sorted([*exercises_1.EXERCISES, *exercises_2.EXERCISES, *exercises_5.EXERCISES, *exercises_more.EXERCISES])
+ALL = list(all_lessons())
 SMALL, LARGE, MORE = 3, 8, 3  # up to SMALL entries a case counts one point, if others have LARGE or more; any other case counts MORE
 
 
