@@ -90,8 +90,7 @@ def test_altered_frames(program, request, dice, part):
 
 @pytest.mark.parametrize("count, most", [(2000, 30), (20000, 150)])
 def test_key(serve, count, most):
-    """The least of twenty keys counts, or of two hundred, and it may take three times what it may
-    on a quiet computer, 10 and 50 ms, since other programs share the processor and its caches."""
+    """The least of twenty keys, or of two hundred: three times 10 and 50 ms, beside other programs."""
     lines = [KINDS[(n - 1) % 5].format(n, n % 3000, n - 1, n % 4000) for n in range(1, count - 1)]
     server = serve()
     server.open(URI, "\n".join(["     ORIG 0", *lines, "     END  0\n"]))

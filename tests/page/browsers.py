@@ -29,8 +29,8 @@ NAMES = {
 
 
 def slowed():
-    """How many times as long all may take if other work keeps all processors busy: the caches are shared."""
-    return 3 if os.getloadavg()[0] >= os.cpu_count() else 1
+    """How many times as long all may take beside other work, with which caches are shared."""
+    return 3 if os.getloadavg()[0] >= os.cpu_count() / 2 else 1
 
 
 class Chromium(Page):
